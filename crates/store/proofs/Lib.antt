@@ -1,0 +1,4 @@
+pub mod Numbers
+pub mod Objects
+pub mod Placings
+pub mod Readings
