@@ -10,21 +10,21 @@ use lib.ListN.{length, replicate, set, getD, length-replicate, getD-replicate}
 use lib.Seq.{getD-set-same, getD-set-other}
 use Rattle.std.proofs.shelf.Tests.{cases-lt, cases-eq}
 use Rattle.std.proofs.shelf.Ways.{tells}
-use Rattle.std.proofs.shelf.Lists.{getD-past, getD-default}
+use Rattle.std.proofs.shelf.Lists.{getD-past}
 use Rattle.store.specs.declared.tags.Cell.{Cell}
 use Rattle.store.specs.Cells.{Whole, empty, unallocated}
 use Rattle.store.proofs.Placings.{whole-empty}
 use Rattle.flat.specs.Rows.{memory}
 
-pub memory-new : (n : ℕ) → memory (replicate n unallocated) ≡ empty
-memory-new n =
+pub memory-new : (n : ℕ) (c : Cell) → c ≡ unallocated → memory (replicate n c) ≡ empty
+memory-new n c e =
     fun-ext (λ i. ⊎-elim
-    (λ h. getD-replicate n i unallocated unallocated h)
-    (λ h. getD-past (replicate n unallocated) i unallocated (rw length-replicate h))
+    (λ h. getD-replicate n i c unallocated h ∙ e)
+    (λ h. getD-past (replicate n c) i unallocated (rw length-replicate h))
     (cases-lt i n))
 
-pub whole-new : (n : ℕ) → Whole (memory (replicate n unallocated))
-whole-new n = subst Whole (sym (memory-new n)) whole-empty
+pub whole-new : (n : ℕ) (c : Cell) → c ≡ unallocated → Whole (memory (replicate n c))
+whole-new n c e = subst Whole (sym (memory-new n c e)) whole-empty
 
 -- a turn of the loop that lays the cells from low on
 pub laid-more : (cells : List Cell) (low i j : ℕ) (c : Cell) (lay old : ℕ → Cell) → low ≤ i → i < length cells → c ≡ lay i
@@ -42,7 +42,3 @@ laid-more cells low i j c lay old l h e inv =
   where
     narrow : (low i j : ℕ) → (j ≡ i → ⊥) → (leb low j && ltb j (i + 1)) ≡ (leb low j && ltb j i)
     narrow low i j s = grind (arith, tells)
-
--- the cell that is read at an address in memory
-pub held-at : (cells : List Cell) (i : ℕ) (d : Cell) → i < length cells → getD cells i d ≡ memory cells i
-held-at cells i d h = getD-default cells i d unallocated h

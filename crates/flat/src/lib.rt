@@ -1,7 +1,8 @@
 // The flat store: a whole cell for each byte.
 ghost use mathlib.Core.Path.{_≡_};
+ghost use Prim.Native.Nat.{_<_};
 ghost use lib.ListN.{length};
-ghost use Rattle.store.specs.Cells.{Whole};
+ghost use Rattle.store.specs.Cells.{Whole, unallocated};
 ghost use Rattle.store.specs.Placing.{carried, spanIn};
 ghost use Rattle.flat.specs.Rows.{memory};
 use store::halves::Cells;
@@ -24,7 +25,7 @@ pub impl Cells for Flat as FlatCells {
 
     fn cell(&self, address: u32) -> Option<Cell> {
         if address < BYTES {
-            Some(self.held[address as usize])
+            Some(at(&self.held, address))
         } else {
             None
         }
@@ -34,11 +35,7 @@ pub impl Cells for Flat as FlatCells {
 pub impl Places for Flat as FlatPlaces {
     fn new() -> Flat {
         Flat {
-            held: [Cell {
-                kind: Kind::Unallocated,
-                size: 1,
-                position: 0,
-            }; 4096],
+            held: [unused(); 4096],
         }
     }
 
@@ -49,14 +46,30 @@ pub impl Places for Flat as FlatPlaces {
     }
 }
 
+// The cell of a byte that nothing holds.
+fn unused() -> Cell
+    ensures { λ r. ⌜ r ≡ unallocated ⌝ }
+{
+    Cell {
+        kind: Kind::Unallocated,
+        size: 1,
+        position: 0,
+    }
+}
+
+fn at(held: &[Cell], address: u32) -> Cell
+    requires { ⌜ length (now held) ≡ 4096 ⌝ ∗ ⌜ address < 4096 ⌝ }
+    ensures { λ r. ⌜ r ≡ memory (now (held .entry)) address ⌝ }
+{
+    held[address as usize]
+}
+
 // The bytes that a placing changes.
 fn span(held: &[Cell], placing: Placing) -> (u32, u32)
     requires { ⌜ length (now held) ≡ 4096 ⌝ }
     ensures { λ r. ⌜ r ≡ spanIn (memory (now (held .entry))) placing ⌝ }
 {
-    let first = held[placing.start as usize];
-    let last = held[placing.last() as usize];
-    placing.span(first, last)
+    placing.span(at(held, placing.start), at(held, placing.last()))
 }
 
 // Carries out a placing on the cells of a memory.

@@ -125,14 +125,14 @@ pub stands-for : (f : ℕ → ℕ) (m : Memory) → Whole m → ((i : ℕ) → f
 stands-for f m w h = let e : f ≡ (λ i. nibbleOf (m i)) = fun-ext h in rw e (fun-ext (decoded-encoded m w))
 
 -- n bytes of 0
-pub nibbles-zero : (n i : ℕ) → nibbles (replicate n 0) i ≡ 0
-nibbles-zero n i =
-    let zeros : List ℕ = replicate n 0 in
-    let e : getD zeros (i / 2) 0 ≡ 0 = ⊎-elim (λ h. getD-replicate n (i / 2) 0 0 h) (λ h. getD-past zeros (i / 2) 0 (rw length-replicate h)) (cases-lt (i / 2) n) in
+pub nibbles-zero : (n c i : ℕ) → c ≡ 0 → nibbles (replicate n c) i ≡ 0
+nibbles-zero n c i z =
+    let row : List ℕ = replicate n c in
+    let e : getD row (i / 2) 0 ≡ 0 = ⊎-elim (λ h. getD-replicate n (i / 2) c 0 h ∙ z) (λ h. getD-past row (i / 2) 0 (rw length-replicate h)) (cases-lt (i / 2) n) in
     rw e (elim (eqb (i % 2) 0) as (λ b. _≡_ {A = ℕ} (cond b 0 0) 0) [ true ↦ refl | false ↦ refl ])
 
-pub decoded-zero : (n : ℕ) → decoded (nibbles (replicate n 0)) ≡ empty
-decoded-zero n = stands-for (nibbles (replicate n 0)) empty whole-empty (nibbles-zero n)
+pub decoded-zero : (n c : ℕ) → c ≡ 0 → decoded (nibbles (replicate n c)) ≡ empty
+decoded-zero n c z = stands-for (nibbles (replicate n c)) empty whole-empty (λ i. nibbles-zero n c i z)
 
 -- a byte is made of its two nibbles
 pub byte-made : (bytes : List ℕ) (i : ℕ) → getD bytes i 0 ≡ nibbles bytes (2 * i) + 16 * nibbles bytes (2 * i + 1)

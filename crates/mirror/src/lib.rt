@@ -4,9 +4,9 @@ ghost use mathlib.Core.Bool.{true, cond};
 ghost use Prim.Native.Nat.{ℕ, _+_, _<_, _≤_};
 ghost use lib.Dec.{eqb};
 ghost use lib.ListN.{length};
-ghost use Rattle.store.specs.Cells.{Whole, kindOf, sound};
+ghost use Rattle.store.specs.Cells.{Whole, kindOf, isSize, sound};
 ghost use Rattle.store.specs.Placing.{carried, spanIn};
-ghost use Rattle.mirror.specs.Nibbles.{nibbles, nibbleOf, byteAnswer, sizeFrom, placeIn, decoded};
+ghost use Rattle.mirror.specs.Nibbles.{nibbles, nibbleOf, log2, byteAnswer, sizeFrom, placeIn, decoded};
 use store::halves::Cells;
 use store::halves::Places;
 use store::placing::Placing;
@@ -107,6 +107,15 @@ fn decode(bytes: &[u8], i: usize) -> Cell
     }
 }
 
+// The nibble of the second byte of an object.
+fn second_nibble(size: u8) -> u8
+    requires { ⌜ isSize size ≡ true ⌝ }
+    ensures value { λ r. ⌜ r ≡ 8 + log2 size ⌝ }
+    ensures small { λ r. ⌜ r < 16 ⌝ }
+{
+    8 + size.ilog2() as u8
+}
+
 fn nibble_of(c: Cell) -> u8
     requires { ⌜ sound c ≡ true ⌝ }
     ensures value { λ r. ⌜ r ≡ nibbleOf c ⌝ }
@@ -114,9 +123,17 @@ fn nibble_of(c: Cell) -> u8
 {
     match c.position {
         0 => c.kind.number(),
-        1 => 8 + c.size.ilog2() as u8,
+        1 => second_nibble(c.size),
         _ => 8,
     }
+}
+
+// The nibbles of two bytes that nothing holds.
+fn unused() -> u8
+    ensures { λ r. ⌜ r ≡ 0 ⌝ }
+{
+    let nibble = Kind::Unallocated.number();
+    nibble + 16 * nibble
 }
 
 // The bytes that a placing changes.
@@ -125,9 +142,10 @@ fn span(bytes: &[u8], placing: Placing) -> (u32, u32)
     requires whole { ⌜ Whole (decoded (nibbles (now bytes))) ⌝ }
     ensures { λ r. ⌜ r ≡ spanIn (decoded (nibbles (now (bytes .entry)))) placing ⌝ }
 {
-    let first = decode(bytes, placing.start as usize);
-    let last = decode(bytes, placing.last() as usize);
-    placing.span(first, last)
+    placing.span(
+        decode(bytes, placing.start as usize),
+        decode(bytes, placing.last() as usize),
+    )
 }
 
 // Carries out a placing on the nibbles of a memory.
@@ -135,7 +153,8 @@ fn write(bytes: &mut [u8], placing: Placing)
     requires long { ⌜ length (now bytes) ≡ 2048 ⌝ }
     requires whole { ⌜ Whole (decoded (nibbles (now bytes))) ⌝ }
     requires exact { ⌜ ((i : ℕ) → nibbles (now bytes) i ≡ nibbleOf (decoded (nibbles (now bytes)) i)) ⌝ }
-    ensures { λ _. ⌜ ((i : ℕ) → nibbles (now (bytes .exit)) i ≡ nibbleOf (carried (decoded (nibbles (now (bytes .entry)))) placing i)) ⌝ }
+    ensures cells { λ _. ⌜ decoded (nibbles (now (bytes .exit))) ≡ carried (decoded (nibbles (now (bytes .entry)))) placing ⌝ }
+    ensures exact { λ _. ⌜ ((i : ℕ) → nibbles (now (bytes .exit)) i ≡ nibbleOf (decoded (nibbles (now (bytes .exit))) i)) ⌝ }
 {
     let (low, high) = span(bytes, placing);
     for i in low..high {
@@ -158,7 +177,9 @@ pub impl Cells for Mirror as MirrorCells {
 
 pub impl Places for Mirror as MirrorPlaces {
     fn new() -> Mirror {
-        Mirror { bytes: [0; 2048] }
+        Mirror {
+            bytes: [unused(); 2048],
+        }
     }
 
     fn place(&mut self, address: u32, kind: u8, size: u8) -> Result<(), Refusal> {

@@ -5,9 +5,9 @@ use native.Mathlib.Omega.{arith}
 use lib.Dec.{leb, ltb}
 use Rattle.store.specs.Placing.{laid, spanIn, carried}
 use Rattle.store.proofs.Placings.{sound-laid}
-use Rattle.store.proofs.Objects.{span-carried, span-up, span-within}
+use Rattle.store.proofs.Objects.{span-carried, span-up, span-within, whole-carried}
 use Rattle.mirror.specs.Nibbles.{nibbles, nibbleOf, decoded}
-use Rattle.mirror.proofs.Decoding.{laid-more, chosen-nibble}
+use Rattle.mirror.proofs.Decoding.{laid-more, chosen-nibble, stands-for}
 use Rattle.mirror.proofs.write.Needs as need
 
 pub nibble-of-v-requires : need.nibble-of-v-requires
@@ -28,13 +28,16 @@ loop-i-again c = λ j.
     (c .loop-i .kept .i) (λ e. here ∙ ap lay (sym e)) (c .loop-i .inv j)
 
 pub returns : need.returns
-returns c = λ j.
+returns c =
     let m = decoded (nibbles (c .args .bytes .now)) in
     let p = c .args .placing in
     let up : c .span-low .result .0 ≤ c .span-low .result .1 = rw (c .span-low .ensures) (span-up m (c .pre .whole) p) in
     let i : c .loop-i .i ≡ c .span-low .result .1 = omega (arith, c .loop-i .kept .i-end up, c .loop-i-test .left) in
+    let each : (j : ℕ) → nibbles (c .loop-i .bytes) j ≡ nibbleOf (carried m p j) = λ j.
     c .loop-i .inv j
     ∙ rw (i, c .pre .exact j)
     (ap (λ (x : ℕ × ℕ). cond (leb (x .0) j && ltb j (x .1)) (nibbleOf (laid p j)) (nibbleOf (m j))) (c .span-low .ensures)
     ∙ chosen-nibble (leb (spanIn m p .0) j && ltb j (spanIn m p .1)) (laid p j) (m j)
-    ∙ ap nibbleOf (span-carried m (c .pre .whole) p j))
+    ∙ ap nibbleOf (span-carried m (c .pre .whole) p j)) in
+    let left : decoded (nibbles (c .loop-i .bytes)) ≡ carried m p = stands-for (nibbles (c .loop-i .bytes)) (carried m p) (whole-carried m (c .pre .whole) p) each in
+    record { cells = left; exact = λ j. each j ∙ ap (λ x. nibbleOf (x j)) (sym left) }

@@ -1,10 +1,9 @@
 use lib.ListN.{length-replicate}
-use Rattle.store.specs.Cells.{unallocated}
 use Rattle.flat.proofs.Held.{memory-new, whole-new}
 use Rattle.flat.proofs.FlatPlaces.new.Needs as need
 
 pub ghost-result : need.ghost-result
-ghost-result c = (length-replicate 4096 unallocated, (whole-new 4096, tt))
+ghost-result c = (length-replicate 4096 (c .unused .result), (whole-new 4096 (c .unused .result) (c .unused .ensures), tt))
 
 pub returns : need.returns
-returns c = memory-new 4096
+returns c = memory-new 4096 (c .unused .result) (c .unused .ensures)
