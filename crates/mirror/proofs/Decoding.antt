@@ -9,7 +9,7 @@ use lib.Dec.{leb, ltb, eqb}
 use lib.ListN.{length, getD, replicate, getD-replicate, length-replicate}
 use Rattle.std.proofs.shelf.Lists.{getD-past}
 use Rattle.std.proofs.shelf.Ways.{tells}
-use Rattle.std.proofs.shelf.Tests.{cases-lt}
+use Rattle.std.proofs.shelf.Tests.{cases-lt, cond-both}
 use Rattle.store.specs.declared.tags.Kind.{Kind}
 use Rattle.store.specs.declared.tags.Kind.the-variants.{Unallocated, Uninitialized, Zero, Integral, Real, Pointer, Torn}
 use Rattle.store.specs.declared.tags.Cell.{Cell}
@@ -64,6 +64,13 @@ nib-further c h = further (c .position) (numberOf (c .kind)) (8 + log2 (c .size)
   where
     further : (p x y : ℕ) → 1 < p → cond (eqb p 0) x (cond (eqb p 1) y 8) ≡ 8
     further p x y h = grind (arith, tells)
+
+-- a nibble has 4 bits
+pub nibble-small : (c : Cell) → sound c ≡ true → nibbleOf c < 16
+nibble-small c h = small (c .position) (numberOf (c .kind)) (log2 (c .size)) (number-small (c .kind)) (power (c .size) (size-sound c h) .1)
+  where
+    small : (p x y : ℕ) → x < 8 → y < 8 → cond (eqb p 0) x (cond (eqb p 1) (8 + y) 8) < 16
+    small p x y h g = cond-both (eqb p 0) x (cond (eqb p 1) (8 + y) 8) (λ n. n < 16) (λ e. omega arith) (λ e. cond-both (eqb p 1) (8 + y) 8 (λ n. n < 16) (λ f. omega arith) (λ f. omega arith))
 
 chosen : (x q p : ℕ) → ((x < 8) × (p ≡ 0)) ⊎ (((8 < x) × (p ≡ 1)) ⊎ ((x ≡ 8) × (p ≡ q + 1))) → cond (ltb x 8) 0 (cond (ltb 8 x) 1 (q + 1)) ≡ p
 chosen x q p h = grind (arith, tells)

@@ -1,0 +1,4 @@
+pub mod Answering
+pub mod Laying
+pub mod Powers
+pub mod Types
