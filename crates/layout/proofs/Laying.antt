@@ -1,8 +1,8 @@
 -- What placing fields that share no byte leaves of each byte of memory. Assumes nothing.
-use mathlib.Core.Path.{_≡_, refl, sym, ap, subst, _∙_}
-use mathlib.Core.Bool.{Bool, true, false, cond}
+use mathlib.Core.Path.{_≡_, refl, sym, subst}
+use mathlib.Core.Bool.{true, false, cond}
 use mathlib.Core.List.{List}
-use mathlib.Core.Logic.{_⊎_, inl, inr, ⊎-elim}
+use mathlib.Core.Logic.{_⊎_, ⊎-elim}
 use Prim.Native.Nat.{ℕ, zero, suc, _+_, _-_, _≤_, _<_}
 use native.Mathlib.Omega.{arith}
 use Rattle.std.proofs.shelf.Tests.{cases-bool, cases-eq, cases-lt}
@@ -11,10 +11,9 @@ use Rattle.std.proofs.shelf.Results.{cases-at-some, cases-at-none}
 use Rattle.std.specs.Options.{Cases}
 use Rattle.std.specs.declared.option.Option.{Option}
 use Rattle.std.specs.declared.option.Option.the-variants.{Some, None}
-use Rattle.store.specs.declared.tags.Kind.{Kind}
 use Rattle.store.specs.declared.tags.Cell.{Cell}
-use Rattle.store.specs.Cells.{Memory, cellOf, torn, single, fresh, among, touched, placed, Whole}
-use Rattle.store.specs.Objects.{Among, Together}
+use Rattle.store.specs.Cells.{Memory, cellOf, torn, single, among, touched, placed, Whole}
+use Rattle.store.specs.Objects.{Among}
 use Rattle.store.proofs.Numbers.{inside-of}
 use Rattle.first.specs.First.{Nowhere, Somewhere}
 use Rattle.layout.specs.declared.field.Field.{Field}
@@ -22,7 +21,7 @@ use Rattle.layout.specs.Fields.{fieldAt, countOf, Owns}
 use Rattle.layout.specs.Rules.{Common, Shared}
 use Rattle.layout.specs.Placing.{putField, laidCells, Inside, Has, Cuts, Left, own, cut, kept, Laid}
 use Rattle.layout.proofs.Answering.{granted-keeps}
-use Rattle.layout.proofs.Types.{Whole-typed, field-typed, typed-some, put-placed}
+use Rattle.layout.proofs.Types.{field-typed, typed-some, put-placed}
 
 nowhere-more : (P : ℕ → Type 0) (n : ℕ) → Nowhere P n → (P n → ⊥) → Nowhere P (suc n)
 nowhere-more P n h here j l p = ⊎-elim (λ e. here (subst P e p)) (λ e. h j (omega arith) p) (cases-eq j n)

@@ -1,5 +1,4 @@
 -- What makes a body bad, number by number, and the answers that the rules allow.
-use mathlib.Core.Path.{_≡_}
 use mathlib.Core.List.{List}
 use Prim.Native.Nat.{ℕ, _^_, _≤_}
 use Rattle.std.specs.Options.{Cases}

@@ -1,6 +1,6 @@
 // The numbers of a body, the low byte first. Bytes past its end read as 0.
 ghost use mathlib.Core.Path.{_≡_};
-ghost use Prim.Native.Nat.{_≤_, _<_, _^_};
+ghost use Prim.Native.Nat.{_<_, _^_};
 ghost use lib.ListN.{getD};
 ghost use Rattle.layout.specs.Fields.{two, four};
 

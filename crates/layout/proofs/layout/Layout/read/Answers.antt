@@ -7,7 +7,6 @@ use Rattle.std.specs.declared.result.Result.{Result}
 use Rattle.std.specs.declared.result.Result.the-variants.{Ok, Err}
 use Rattle.first.specs.First.{Only}
 use Rattle.layout.specs.declared.layout.Layout.{Layout}
-use Rattle.layout.specs.Fields.{Reads}
 use Rattle.layout.specs.Rules.{Allowed, answerOf}
 use Rattle.layout.proofs.Answering.{answer-length, answer-fields, granted-keeps, field-known}
 use Rattle.layout.proofs.layout.Layout.read.Needs as need

@@ -1,5 +1,4 @@
-use mathlib.Core.Path.{subst, _∙_}
-use denote.Ref.{now}
+use mathlib.Core.Path.{subst}
 use Rattle.std.proofs.shelf.Ways.{decides-at}
 use Rattle.std.specs.Options.{Cases}
 use Rattle.std.specs.Orderings.{Decides}

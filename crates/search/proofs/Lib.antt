@@ -1,0 +1,4 @@
+pub mod Count
+pub mod Frontier
+pub mod Reading
+pub mod Stopping
