@@ -1,24 +1,18 @@
 -- The body of a packed record: a base address of 2 bytes, and then fields of 7 bytes, each a letter, an offset of 2 bytes and a reset value of 4.
--- Every number has its low byte first. Bytes past the end of a body read as 0.
+-- Every number has its low byte first, and bytes past the end of a body read as 0.
 use mathlib.Core.Path.{_≡_}
 use mathlib.Core.List.{List}
 use Prim.Native.Nat.{ℕ, _+_, _-_, _*_, _/_, _%_, _^_, _≤_}
 use denote.Ref.{now}
-use lib.ListN.{length, getD}
+use lib.ListN.{length}
 use Rattle.std.specs.declared.option.Option.{Option}
 use Rattle.std.specs.Options.{mapped}
+use Rattle.little_endian.specs.Numbers.{byte, two, four}
 use Rattle.store.specs.declared.scalars.Scalar.{Scalar}
 use Rattle.store.specs.Scalars.{scalarOf}
 use Rattle.store.specs.Objects.{Among}
 use Rattle.layout.specs.declared.field.Field.{Field}
 use Rattle.layout.specs.declared.layout.Layout.{Layout}
-
--- the numbers that two and four bytes from i on stand for
-abbrev pub two : List ℕ → ℕ → ℕ
-two b i = getD b i 0 + 256 * getD b (i + 1) 0
-
-abbrev pub four : List ℕ → ℕ → ℕ
-four b i = getD b i 0 + 256 * getD b (i + 1) 0 + 65536 * getD b (i + 2) 0 + 16777216 * getD b (i + 3) 0
 
 -- where field k begins in a body
 abbrev pub startOf : ℕ → ℕ
@@ -34,7 +28,7 @@ fieldOf b k t = record { scalar = t; address = addressOf b (startOf k); reset = 
 
 -- field k, and none where there is no such letter
 unfoldable pub fieldAt : List ℕ → ℕ → Option Field
-fieldAt b k = mapped (fieldOf b k) (scalarOf (getD b (startOf k) 0))
+fieldAt b k = mapped (fieldOf b k) (scalarOf (byte b (startOf k)))
 
 -- the number of fields, and the lengths that a body may have: those of 1 to 64 fields
 abbrev pub countOf : List ℕ → ℕ

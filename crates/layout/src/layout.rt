@@ -9,17 +9,18 @@ ghost use Rattle.std.specs.Results.{Cases};
 ghost use Rattle.std.specs.Vec.{made};
 ghost use Rattle.std.specs.declared.option.Option.the-variants.{None};
 ghost use Rattle.first.specs.First.{Only};
-ghost use Rattle.layout.specs.Fields.{Measured, Reads, addressOf, countOf, fieldAt, two};
+ghost use Rattle.little_endian.specs.Numbers.{two};
+ghost use Rattle.layout.specs.Fields.{Measured, Reads, addressOf, countOf, fieldAt};
 ghost use Rattle.layout.specs.Placing.{Laid, laidCells, putField};
 ghost use Rattle.layout.specs.Rules.{Allowed, answerOf};
 
 mod rules;
 
-use crate::bytes::byte_at;
-use crate::bytes::u16_at;
-use crate::bytes::u32_at;
 use crate::field::Field;
 use first::try_two;
+use little_endian::byte_at;
+use little_endian::u16_at;
+use little_endian::u32_at;
 use rules::Shares;
 use rules::SharesTest;
 use rules::Unfits;

@@ -1,4 +1,3 @@
 // The bodies of packed records: their fields, the rules that a body keeps, and the placing of its fields.
-mod bytes;
 pub mod field;
 pub mod layout;

@@ -1,15 +1,8 @@
 -- What stands where in a map file: a count, that many entries of 5 bytes, and the bodies.
 use mathlib.Core.List.{List, [], _++_}
 use Prim.Native.Nat.{ℕ, zero, suc, _+_, _*_}
-use lib.ListN.{getD, take, drop}
-
--- a byte of the file; past its end, 0
-abbrev pub byte : List ℕ → ℕ → ℕ
-byte file i = getD file i 0
-
--- two bytes, the low one first
-abbrev pub half : List ℕ → ℕ → ℕ
-half file i = byte file i + 256 * byte file (i + 1)
+use lib.ListN.{take, drop}
+use Rattle.little_endian.specs.Numbers.{byte, two}
 
 -- how many entries there are
 abbrev pub entry-count : List ℕ → ℕ
@@ -20,10 +13,10 @@ abbrev pub letter-at : List ℕ → ℕ → ℕ
 letter-at file i = byte file (1 + 5 * i)
 
 abbrev pub offset-at : List ℕ → ℕ → ℕ
-offset-at file i = half file (2 + 5 * i)
+offset-at file i = two file (2 + 5 * i)
 
 abbrev pub length-at : List ℕ → ℕ → ℕ
-length-at file i = half file (4 + 5 * i)
+length-at file i = two file (4 + 5 * i)
 
 abbrev pub body-at : List ℕ → ℕ → List ℕ
 body-at file i = take (length-at file i) (drop (offset-at file i) file)

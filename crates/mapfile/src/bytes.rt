@@ -2,21 +2,9 @@
 ghost use mathlib.Core.Path.{_≡_};
 ghost use Prim.Native.Nat.{ℕ, _+_, _*_, _^_, _<_, _≤_};
 ghost use lib.ListN.{length};
-ghost use Rattle.mapfile.specs.Files.{byte, half, entry-count, letter-at, offset-at, length-at, end-at, due-at, body-at};
-
-fn byte_at(file: &[u8], i: usize) -> u8
-    ensures { λ r. ⌜ r ≡ byte (now (file .entry)) i ⌝ }
-{
-    file.get(i).copied().unwrap_or(0)
-}
-
-// Two bytes, the low one first.
-fn half_at(file: &[u8], i: usize) -> u16
-    requires { ⌜ i < 2 ^ 63 ⌝ }
-    ensures { λ r. ⌜ r ≡ half (now (file .entry)) i ⌝ }
-{
-    u16::from(byte_at(file, i)) + 256 * u16::from(byte_at(file, i + 1))
-}
+ghost use Rattle.mapfile.specs.Files.{entry-count, letter-at, offset-at, length-at, end-at, due-at, body-at};
+use little_endian::byte_at;
+use little_endian::u16_at;
 
 pub(crate) fn entry_count(file: &[u8]) -> u32
     ensures { λ r. ⌜ r ≡ entry-count (now (file .entry)) ⌝ }
@@ -33,13 +21,13 @@ pub(crate) fn letter_at(file: &[u8], entry: u32) -> char
 pub(crate) fn offset_at(file: &[u8], entry: u32) -> u32
     ensures { λ r. ⌜ r ≡ offset-at (now (file .entry)) entry ⌝ }
 {
-    u32::from(half_at(file, 2 + 5 * entry as usize))
+    u32::from(u16_at(file, 2 + 5 * entry as usize))
 }
 
 pub(crate) fn end_at(file: &[u8], entry: u32) -> u32
     ensures { λ r. ⌜ r ≡ end-at (now (file .entry)) entry ⌝ }
 {
-    offset_at(file, entry) + u32::from(half_at(file, 4 + 5 * entry as usize))
+    offset_at(file, entry) + u32::from(u16_at(file, 4 + 5 * entry as usize))
 }
 
 // Where the body of an entry has to begin.

@@ -1,3 +1,4 @@
+use native.Mathlib.Omega.{arith}
 use mathlib.Core.Path.{_≡_, ap, _∙_}
 use mathlib.Core.List.{List}
 use Prim.Native.Nat.{ℕ, _+_}
@@ -8,7 +9,8 @@ use Rattle.std.specs.declared.option.Option.the-variants.{Some, None}
 use Rattle.store.specs.declared.scalars.Scalar.{Scalar}
 use Rattle.store.specs.Scalars.{scalarOf}
 use Rattle.layout.specs.declared.field.Field.{Field}
-use Rattle.layout.specs.Fields.{fieldAt, fieldOf, startOf, addressOf, four}
+use Rattle.little_endian.specs.Numbers.{four}
+use Rattle.layout.specs.Fields.{fieldAt, fieldOf, startOf, addressOf}
 use Rattle.layout.proofs.layout.field_at.Needs as need
 
 -- the field whose letter is l
@@ -26,5 +28,5 @@ returns-in-Break-scalar c = c .from-residual .ensures ∙ field-by (c .args .bod
 
 pub returns : need.returns
 returns c =
-    field-is (c .args .body .now) (c .args .k) (c .in-Continue-scalar .scalar) (c .address-at .result) (c .u32-at .result) (c .address-at .ensures) (c .u32-at .ensures)
+    field-is (c .args .body .now) (c .args .k) (c .in-Continue-scalar .scalar) (c .address-at .result) (c .u32-at .result) (c .address-at .ensures) (c .u32-at .ensures (omega arith))
     ∙ field-by (c .args .body .now) (c .args .k) (c .byte-at .result) (Some (c .in-Continue-scalar .scalar)) (c .in-Continue-scalar .ensures tt) (c .byte-at .ensures)

@@ -1,6 +1,6 @@
 use borrow.Author.Needs.{needs}
 use Rattle.std.proofs.shelf.Lists.{getD-past}
-use Rattle.mapfile.proofs.bytes.byte_at.Needs as need
+use Rattle.little_endian.proofs.byte_at.Needs as need
 
 pub returns : need.returns
 returns c = search (needs, getD-past)
