@@ -2,7 +2,7 @@
 use mathlib.Core.Path.{_≡_, refl, sym, ap, subst, _∙_}
 use mathlib.Core.List.{List, _++_}
 use mathlib.Core.Logic.{_⊎_, inl, inr, ⊎-elim}
-use Prim.Native.Nat.{ℕ, zero, suc, _<_, _≤_}
+use Prim.Native.Nat.{ℕ, zero, suc, _+_, _-_, _<_, _≤_}
 use native.Mathlib.Omega.{arith}
 use lib.ListN.{length, take}
 use lib.Seq.{take-add}
@@ -13,7 +13,7 @@ use Rattle.first.specs.First.{Somewhere, FirstAt, One, Only, Answer}
 use Rattle.first.proofs.Firsts.{tried-one, if-broken-one, exactly-one, only, only-like, somewhere-or}
 use Rattle.mapfile.specs.Files.{entry-count, letter-at, offset-at, length-at, body-at, end-at, header-length, header, due-at, bodies}
 use Rattle.mapfile.specs.Sections.{Single, TheBody}
-use Rattle.mapfile.specs.Rules.{routine-letter, claims-letter, Under, Unreadable, Second, BadEntry, Incomplete, Accepted, Allowed, InOrder, unreadable, bad-entry, incomplete, accepted, Cut, Sole, Parted}
+use Rattle.mapfile.specs.Rules.{routine-letter, claims-letter, Under, Unreadable, Second, BadEntry, Incomplete, Accepted, Allowed, InOrder, unreadable, bad-entry, incomplete, accepted, Cut, Sole, Holds, Parted}
 
 module _ (file : List ℕ) where
   abbrev n : ℕ
@@ -94,11 +94,40 @@ module _ (file : List ℕ) where
     some-routine = ⊎-elim (λ s. s) (λ h. absurd (ok .complete (inl h)))
         (somewhere-or (Under file routine-letter) (λ j. cases-eq (letter-at file j) routine-letter) n)
 
+    -- bodies begin one behind the other
+    rises : (i d : ℕ) → i + d ≤ n → due-at file i ≤ due-at file (i + d)
+    rises i zero l = let e : i + 0 ≡ i = omega arith in rw e (omega arith)
+    rises i (suc d) l =
+        let e : i + suc d ≡ suc (i + d) = omega arith in
+        rw e (omega (arith, rises i d (omega arith), placed (i + d) (omega arith)))
+
+    later : (i j : ℕ) → i ≤ j → j ≤ n → due-at file i ≤ due-at file j
+    later i j h l = let e : i + (j - i) ≡ j = omega arith in subst (λ (x : ℕ). due-at file i ≤ due-at file x) e (rises i (j - i) (omega arith))
+
+    behind-header : (p i : ℕ) → i < n → Holds file p i → header-length file ≤ p
+    behind-header p i l h = omega (arith, later 0 i (omega arith) (omega arith), placed i l, h .0)
+
+    before : (p i j : ℕ) → i < j → j < n → Holds file p i → Holds file p j → ⊥
+    before p i j h l a b = omega (arith, later (suc i) j h (omega arith), placed j l, a .1, b .0)
+
+    one-body : (p i j : ℕ) → i < n → j < n → Holds file p i → Holds file p j → i ≡ j
+    one-body p i j l m a b = ⊎-elim (λ h. absurd (before p i j h m a b)) (λ h. ⊎-elim (λ g. absurd (before p j i g l b a)) (λ g. omega arith) (cases-lt j i)) (cases-lt i j)
+
+    covered-to : (p k : ℕ) → k ≤ n → p < due-at file k → (p < header-length file) ⊎ Somewhere (Holds file p) k
+    covered-to p zero l h = inl h
+    covered-to p (suc k) l h = ⊎-elim
+        (λ (b : p < due-at file k). ⊎-elim inl (λ s. inr (s .0, omega (arith, s .1), s .2)) (covered-to p k (omega arith) b))
+        (λ (b : due-at file k ≤ p). inr (k, omega arith, (omega (arith, placed k (omega arith)), h)))
+        (cases-lt p (due-at file k))
+
     pub parted : Parted file
     parted = record {
       joined = joined-to n (omega arith) ∙ take-all (due-at file n) file nothing-left;
       header-whole = simp length-take (omega (arith, header-fits));
       body-whole = λ i l. simp (length-take, length-drop) (omega (arith, within i l));
+      covered = λ p h. covered-to p n (omega arith) (omega (arith, nothing-left));
+      behind = behind-header;
+      apart = one-body;
       routine = (some-routine .0, sole routine-letter (inl refl) (some-routine .0) (some-routine .1) (some-routine .2));
       claims = sole claims-letter (inr refl);
     }

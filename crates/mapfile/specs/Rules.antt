@@ -2,7 +2,7 @@
 use mathlib.Core.Path.{_≡_}
 use mathlib.Core.List.{List, _++_}
 use mathlib.Core.Logic.{_⊎_}
-use Prim.Native.Nat.{ℕ, _<_}
+use Prim.Native.Nat.{ℕ, _<_, _≤_}
 use lib.ListN.{length}
 use Rattle.std.specs.declared.result.Result.the-variants.{Ok, Err}
 use Rattle.first.specs.First.{Nowhere, Somewhere, FirstAt, IfBroken, Numbered, Granted, Answer}
@@ -83,10 +83,18 @@ pub record Sole (file : List ℕ) (letter i : ℕ) : Type 0 where
   pub under : Under file letter i
   pub alone : (j : ℕ) → j < entry-count file → Under file letter j → j ≡ i
 
--- What an accepted file is: its header and its bodies in order, each whole, so that every byte belongs to exactly one of them; one routine, claims at most once.
+-- byte p of the file lies in body i
+abbrev pub Holds : List ℕ → ℕ → ℕ → Type 0
+Holds file p i = (offset-at file i ≤ p) × (p < end-at file i)
+
+-- What an accepted file is: its header and its bodies in order, each whole; one routine, claims at most once.
 pub record Parted (file : List ℕ) : Type 0 where
   pub joined : header file ++ bodies file (entry-count file) ≡ file
   pub header-whole : length (header file) ≡ header-length file
   pub body-whole : (i : ℕ) → i < entry-count file → length (body-at file i) ≡ length-at file i
+  -- each byte lies in the header or in a body, and in no two of them
+  pub covered : (p : ℕ) → p < length file → (p < header-length file) ⊎ Somewhere (Holds file p) (entry-count file)
+  pub behind : (p i : ℕ) → i < entry-count file → Holds file p i → header-length file ≤ p
+  pub apart : (p i j : ℕ) → i < entry-count file → j < entry-count file → Holds file p i → Holds file p j → i ≡ j
   pub routine : (i : ℕ) × Sole file routine-letter i
   pub claims : (i : ℕ) → i < entry-count file → Under file claims-letter i → Sole file claims-letter i

@@ -1,6 +1,6 @@
-use borrow.Author.Needs.{needs}
+use mathlib.Core.Path.{sym}
 use Rattle.std.proofs.shelf.Lists.{getD-past}
 use Rattle.little_endian.proofs.byte_at.Needs as need
 
-pub returns : need.returns
-returns c = search (needs, getD-past)
+pub returns-else-i-bytes : need.returns-else-i-bytes
+returns-else-i-bytes c = sym (getD-past (c .args .bytes .now) (c .args .i) 0 (c .if-i-bytes .left))

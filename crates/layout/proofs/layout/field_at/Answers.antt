@@ -1,4 +1,3 @@
-use native.Mathlib.Omega.{arith}
 use mathlib.Core.Path.{_≡_, ap, _∙_}
 use mathlib.Core.List.{List}
 use Prim.Native.Nat.{ℕ, _+_}
@@ -28,5 +27,5 @@ returns-in-Break-scalar c = c .from-residual .ensures ∙ field-by (c .args .bod
 
 pub returns : need.returns
 returns c =
-    field-is (c .args .body .now) (c .args .k) (c .in-Continue-scalar .scalar) (c .address-at .result) (c .u32-at .result) (c .address-at .ensures) (c .u32-at .ensures (omega arith))
+    field-is (c .args .body .now) (c .args .k) (c .in-Continue-scalar .scalar) (c .address-at .result) (c .u32-at .result) (c .address-at .ensures) (c .u32-at .ensures)
     ∙ field-by (c .args .body .now) (c .args .k) (c .byte-at .result) (Some (c .in-Continue-scalar .scalar)) (c .in-Continue-scalar .ensures tt) (c .byte-at .ensures)
