@@ -1,3 +1,5 @@
 pub mod Answers
 pub mod Cellwise
+pub mod Endings
 pub mod Halves
+pub mod Rowwise

@@ -2,7 +2,8 @@
 use mathlib.Core.Path.{_≡_}
 use mathlib.Core.Bool.{Bool, cond}
 use mathlib.Core.List.{List}
-use Prim.Native.Nat.{ℕ, zero, suc, max, _+_, _-_, _%_, _<_, _≤_}
+use mathlib.Core.Logic.{_⊎_}
+use Prim.Native.Nat.{ℕ, zero, suc, min, max, _+_, _-_, _%_, _<_, _≤_}
 use denote.Ref.{now}
 use lib.Dec.{eqb, ltb}
 use Rattle.std.specs.Options.{Cases, mapped}
@@ -58,6 +59,11 @@ pub record Drawn (m : Memory) (l : Layout) (i : ℕ) (r : Row) : Type 0 where
   pub nibble : r .nibble ≡ nibbleOf (m i)
   pub reset : r .reset ≡ resetAt l i (r .field)
 
+-- A row of a record in its own store: the cell is the one that the row's field gives the byte, and a gap is unallocated.
+abbrev pub CellByField : List ℕ → ℕ → Option ℕ → Cell → Type 0
+CellByField b i None c = c ≡ unallocated
+CellByField b i (Some k) c = Cases (fieldAt b k) ⊥ (λ f. c ≡ cellOf (f .scalar .kind) (f .scalar .size) (i - f .address))
+
 -- the bytes of a field, and whether the first has an odd address
 abbrev pub extentOf : Field → Extent
 extentOf f = record { scalar = f .scalar; first = f .address; last = f .address + f .scalar .size - 1; odd = eqb (f .address % 2) 1 }
@@ -70,3 +76,8 @@ ending (Some f) = f .address + f .scalar .size
 abbrev pub endOf : Layout → ℕ → ℕ
 endOf l zero = 0
 endOf l (suc n) = max (endOf l n) (ending (fieldIn l n))
+
+-- The end of a record, of which no more than the memory counts: no field ends later, and one ends there.
+pub record Ends (l : Layout) (r : ℕ) : Type 0 where
+  pub reaches : (k : ℕ) → k < l .count → min (ending (fieldIn l k)) 4096 ≤ r
+  pub reached : (r ≡ 0) ⊎ ((k : ℕ) × (k < l .count) × (r ≡ min (ending (fieldIn l k)) 4096))

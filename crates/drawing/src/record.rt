@@ -11,8 +11,10 @@ ghost use Rattle.first.specs.First.{First, Only};
 ghost use Rattle.little_endian.specs.Numbers.{two};
 ghost use Rattle.layout.specs.Fields.{Reads};
 ghost use Rattle.layout.specs.Rules.{answerOf};
+ghost use Rattle.layout.specs.Placing.{laidCells};
+ghost use Rattle.store.specs.Cells.{empty};
 ghost use Rattle.mirror.specs.Nibbles.{nibbleOf};
-ghost use Rattle.drawing.specs.Drawn.{Allowed, Drawn, HasIn, Past, Shown, endOf, ending, extentOf, fieldIn, resetAt};
+ghost use Rattle.drawing.specs.Drawn.{Allowed, CellByField, Drawn, Ends, HasIn, Past, Shown, endOf, ending, extentOf, fieldIn, resetAt};
 use crate::row::Extent;
 use crate::row::Row;
 use first::Test;
@@ -110,6 +112,15 @@ fn nibble_at<S: Mirrored>(store: &S, address: u32) -> u8
     }
 }
 
+// A new store with the fields of a layout.
+fn place_in_new<S: Places>(layout: Layout) -> S
+    ensures { λ r. ⌜ S·Cells .cells r ≡ laidCells empty (behind (layout .entry .body)) (layout .entry .count) ⌝ }
+{
+    let mut store = S::new();
+    layout.place(&mut store);
+    store
+}
+
 // Where a field ends.
 fn end_of(field: Option<Field>) -> u64
     ensures { λ r. ⌜ r ≡ ending field ⌝ }
@@ -129,6 +140,13 @@ fn last_end(layout: Layout) -> u64
         end = end.max(end_of(layout.field(k)));
     }
     end
+}
+
+// An end, no further than memory.
+fn in_memory(end: u64) -> u32
+    ensures { λ r. ⌜ r ≡ min end 4096 ⌝ }
+{
+    end.min(BYTES as u64) as u32
 }
 
 fn extent_of(field: Field) -> Extent
@@ -155,11 +173,10 @@ impl<'a> Record<'a> {
 
     // A new store in which the fields are placed.
     pub fn placed<S: Places>(&self) -> S
-        ensures { λ r. ⌜ ((b : List ℕ) → Reads b (now (self .entry) .layout) → Allowed b (Ok tt) → (i : ℕ) → Shown b i (S·Cells .cells r i)) ⌝ }
+        ensures cells { λ r. ⌜ ((b : List ℕ) → Reads b (now (self .entry) .layout) → Allowed b (Ok tt) → (i : ℕ) → Shown b i (S·Cells .cells r i)) ⌝ }
+        ensures rows { λ r. ⌜ ((b : List ℕ) → Reads b (now (self .entry) .layout) → Allowed b (Ok tt) → (i : ℕ) (row : Row) → Drawn (S·Cells .cells r) (now (self .entry) .layout) i row → CellByField b i (row .field) (row .cell)) ⌝ }
     {
-        let mut store = S::new();
-        self.layout.place(&mut store);
-        store
+        place_in_new(self.layout)
     }
 
     // The first byte of the record.
@@ -171,9 +188,9 @@ impl<'a> Record<'a> {
 
     // The end of its last field, and no further than memory.
     pub fn end(&self) -> u32
-        ensures { λ r. ⌜ r ≡ min (endOf (now (self .entry) .layout) (now (self .entry) .layout .count)) 4096 ⌝ }
+        ensures { λ r. ⌜ Ends (now (self .entry) .layout) r ⌝ }
     {
-        last_end(self.layout).min(BYTES as u64) as u32
+        in_memory(last_end(self.layout))
     }
 
     // The row of a byte of memory, by the cells of a store.

@@ -2,6 +2,7 @@
 use drawing::record::Record;
 use drawing::row::ExtentDisplay;
 use drawing::row::RowDisplay;
+use mapfile::LONGEST;
 use mapfile::MapFile;
 use mapfile::Refusal;
 use mapfile::Section;
@@ -15,7 +16,7 @@ use store::halves::Cells;
 use store::halves::Places;
 
 // One byte more than the longest map file, so that a longer input is seen to be one.
-const MOST: u64 = 16_385;
+const MOST: u64 = LONGEST as u64 + 1;
 
 // The most fields that a record can have.
 const FIELDS: u32 = 64;

@@ -5,5 +5,6 @@ mod reader;
 mod section;
 
 pub use first::Refusal;
+pub use reader::LONGEST;
 pub use reader::MapFile;
 pub use section::Section;

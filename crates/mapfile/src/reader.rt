@@ -26,7 +26,8 @@ use first::any_bad;
 use first::first_bad;
 use first::try_number;
 
-const LONGEST: usize = 16_384;
+// The most bytes of a file.
+pub const LONGEST: usize = 16_384;
 
 const MOST_ENTRIES: u32 = 16;
 
