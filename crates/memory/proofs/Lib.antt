@@ -1,0 +1,7 @@
+pub mod Rows
+pub mod Covering
+pub mod Tying
+pub mod Reaching
+pub mod Placed
+pub mod Doubling
+pub mod Pointing
