@@ -198,31 +198,27 @@ mod tests {
         check_eq(memory.load(4092, 4), Some((9, Kind::Integral)))
     }
 
+    fn check_import(body: &[u8], expected: Refusal) -> Result<(), Fail> {
+        let mut memory = neighbours()?;
+        check_eq(answer(memory.import(body)), expected)
+    }
+
     #[test]
     fn refused_records() -> Result<(), Fail> {
-        let mut memory = neighbours()?;
-        let bodies = [
-            (*b"\x40\0h\x0f\0\0\0\0\0", (27, 0)),
-            (*b"\xfd\x0fw\0\0\x09\0\0\0", (27, 0)),
-            // base and offset do not wrap
-            (*b"\xff\xffb\x51\0\x09\0\0\0", (27, 0)),
-            (*b"\xff\xffb\xff\xff\x09\0\0\0", (27, 0)),
-            (*b"\x40\0x\0\0\x09\0\0\0", (9, 0)),
-            (*b"\x40\0b\0\0\x09\x01\0\0", (9, 0)),
-        ];
-        for (body, expected) in bodies {
-            check_eq(answer(memory.import(&body)), expected)?;
-        }
-        let pairs = [
-            (*b"\x40\0h\0\0\x34\x12\0\0p\x01\0\0\0\0\0", (10, 1)),
-            (*b"\x4c\0h\0\0\x34\x12\0\0p\x03\0\0\0\0\0", (27, 1)),
-            (*b"\x40\0b\0\0\x07\0\0\0x\0\0\0\0\0\0", (9, 1)),
-        ];
-        for (body, expected) in pairs {
-            check_eq(answer(memory.import(&body)), expected)?;
-        }
-        check_eq(answer(memory.import(b"\x40\0")), (8, 0))?;
-        check_eq(memory.load(64, 2), Some((0, Kind::Uninitialized)))
+        // over the edge of two areas, and past the end
+        check_import(b"\x40\0h\x0f\0\0\0\0\0", (27, 0))?;
+        check_import(b"\xfd\x0fw\0\0\x09\0\0\0", (27, 0))?;
+        // base and offset do not wrap
+        check_import(b"\xff\xffb\x51\0\x09\0\0\0", (27, 0))?;
+        check_import(b"\xff\xffb\xff\xff\x09\0\0\0", (27, 0))
+    }
+
+    #[test]
+    fn refused_in_order() -> Result<(), Fail> {
+        check_import(b"\x40\0", (8, 0))?;
+        check_import(b"\x4c\0h\0\0\x34\x12\0\0x\x01\0\0\0\0\0", (9, 1))?;
+        check_import(b"\x4c\0h\0\0\x34\x12\0\0p\x01\0\0\0\0\0", (10, 1))?;
+        check_import(b"\x4c\0h\0\0\x34\x12\0\0p\x03\0\0\0\0\0", (27, 1))
     }
 
     fn all_zero(marks: &[u8]) -> bool {
@@ -274,16 +270,18 @@ mod tests {
         leads::<Mirror>()
     }
 
-    #[test]
-    fn few_marks() -> Result<(), Fail> {
+    fn check_few(start: u32) -> Result<(), Fail> {
         let memory = neighbours()?;
         let mut marks = [7; 255];
+        check_eq(memory.reach(start, &mut marks), Err((14, 0)))?;
+        check(all_zero(&marks))
+    }
+
+    #[test]
+    fn few_marks() -> Result<(), Fail> {
         // too few marks come before a start at which no area begins
-        for start in [0, 64] {
-            check_eq(memory.reach(start, &mut marks), Err((14, 0)))?;
-            check(all_zero(&marks))?;
-        }
-        Ok(())
+        check_few(64)?;
+        check_few(0)
     }
 
     fn busy<S: Places>(memory: &mut Memory<S>) -> Result<(), Fail> {
