@@ -48,9 +48,11 @@ bit w j = eqb (w / 2 ^ j % 2) 1
 pub data Reach (s : State) (a n : ℕ) : Result ℕ (ℕ × ℕ) → Type 0 where
   few-marks : n < 256 → Reach s a n (Err (14, 0))
   no-area : 256 ≤ n → indexOf (begins a) (s .areas) ≡ None → Reach s a n (Err (26, 0))
-  areas : (i w : ℕ) → 256 ≤ n → indexOf (begins a) (s .areas) ≡ Some i → ((j : ℕ) → Decides (bit w j) (Reaches s i j)) → Reach s a n (Ok w)
+  reached : (i w : ℕ) → 256 ≤ n → indexOf (begins a) (s .areas) ≡ Some i → ((j : ℕ) → Decides (bit w j) (Reaches s i j)) → Reach s a n (Ok w)
 
--- The graph that is searched. What the view of a memory stands for.
+-- The graph that is searched: its slots are proved to lead where the areas do.
+
+-- what the view of a memory stands for
 abbrev pub linked : {C : Type 0} → (C → Cells) → Links C → State
 linked cells l = stateOf (held (now (l .bytes))) (cells (now (l .store))) (opened (now (l .areas)))
 

@@ -4,3 +4,6 @@ pub mod routine;
 mod rules;
 mod text;
 pub mod verdict;
+
+// The guard of the marks that a verdict takes.
+pub use search::Marks;

@@ -11,7 +11,7 @@ mod reading;
 
 use crate::text::Text;
 
-// A text that the rules accept. Every next step of a step is one of the routine, so that a run needs no test of it.
+// A text that the rules accept. Every next step of a step is one of the routine, so that a run need not look.
 #[derive(Clone, Copy)]
 pub struct Routine {
     text: Text,

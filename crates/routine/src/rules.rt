@@ -1,4 +1,4 @@
-// What makes a step bad, one test a number.
+// What makes a step bad, a rule a number.
 ghost use mathlib.Core.Path.{_≡_};
 ghost use mathlib.Core.Bool.{false};
 ghost use mathlib.Core.Logic.{_⊎_};

@@ -2,8 +2,8 @@
 
 #[cfg(test)]
 mod tests {
+    use routine::Marks;
     use routine::routine::Routine;
-    use search::Marks;
     use std::alloc::AllocError;
     use std::alloc::Global;
     use std::test::*;

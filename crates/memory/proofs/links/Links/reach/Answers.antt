@@ -9,7 +9,7 @@ use Rattle.std.specs.declared.result.Result.{Result}
 use Rattle.std.specs.declared.result.Result.the-variants.{Ok, Err}
 use Rattle.search.specs.Marks.{Few}
 use Rattle.memory.specs.State.{State}
-use Rattle.memory.specs.Links.{Reach, linked, few-marks, no-area, areas}
+use Rattle.memory.specs.Links.{Reach, linked, few-marks, no-area, reached}
 use Rattle.memory.proofs.Pointing.{bits-reach}
 use Rattle.memory.proofs.links.Links.reach.Needs as need
 
@@ -33,7 +33,7 @@ returns-in-Some g c =
     let f = c .in-Continue-follow .ensures tt .answer .1 in
     let shown = bits-reach s (g .C·Cells·met .whole (now (l .store))) (now (l .areas) .apart) (c .args .start) (c .in-Some .from) (c .count .result) (c .bits .result) _
     (c .in-Some .ensures tt) (c .count .ensures) f (c .bits .ensures) in
-    record { answer = areas (c .in-Some .from) (c .bits .result) (omega arith) (sym (c .in-Some .ensures tt)) shown; clear = search needs }
+    record { answer = reached (c .in-Some .from) (c .bits .result) (omega arith) (sym (c .in-Some .ensures tt)) shown; clear = search needs }
 
 pub returns : need.returns
 returns g c =

@@ -42,7 +42,7 @@ pub returns-in-Break-check : need.returns-in-Break-check
 returns-in-Break-check c =
     let p = err-from-errBy (c .from-residual-in-Break-check .result) (c .from-residual-in-Break-check .ensures .1) in
     refusal _ _ (c .in-Break-check .field-0 .0) (p .1 ∙ ap Err (p .2))
-    (answer-steps (c .args .body .now) (textOf (c .read-text-text .result)) (c .read-text-text .ensures) _ (c .in-Break-check .ensures tt))
+    (answer-steps (c .args .body .now) (textOf (c .read-text-text .result)) (c .read-text-text .ensures) (Err (c .in-Break-check .field-0 .0)) (c .in-Break-check .ensures tt))
 
 pub ghost-result : need.ghost-result
 unfolding textOf
