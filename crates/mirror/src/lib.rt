@@ -107,13 +107,21 @@ fn decode(bytes: &[u8], i: usize) -> Cell
     }
 }
 
+fn log_of(size: u8) -> u8
+    requires { ⌜ isSize size ≡ true ⌝ }
+    ensures value { λ r. ⌜ r ≡ log2 size ⌝ }
+    ensures small { λ r. ⌜ r < 8 ⌝ }
+{
+    size.ilog2() as u8
+}
+
 // The nibble of the second byte of an object.
 fn second_nibble(size: u8) -> u8
     requires { ⌜ isSize size ≡ true ⌝ }
     ensures value { λ r. ⌜ r ≡ 8 + log2 size ⌝ }
     ensures small { λ r. ⌜ r < 16 ⌝ }
 {
-    8 + size.ilog2() as u8
+    8 + log_of(size)
 }
 
 fn nibble_of(c: Cell) -> u8

@@ -1,10 +1,8 @@
-use mathlib.Core.Path.{ap}
-use Prim.Native.Nat.{_+_}
 use native.Mathlib.Omega.{arith}
 use Rattle.mirror.proofs.Powers.{power, log-only}
-use Rattle.mirror.proofs.second_nibble.Needs as need
+use Rattle.mirror.proofs.log_of.Needs as need
 
 pub returns : need.returns
 returns c =
     let log = log-only (c .args .size) (c .ilog2 .result) (c .pre) (c .ilog2 .ensures .high-bound) (c .ilog2 .ensures .low-bound) in
-    record { value = ap (λ n. 8 + n) log; small = omega (arith, power (c .args .size) (c .pre) .1) }
+    record { value = log; small = omega (arith, power (c .args .size) (c .pre) .1) }
