@@ -1,4 +1,6 @@
 // Examples of drawn records: which bodies are refused, and the rows of one.
+#![tactic(auto)]
+
 #[cfg(test)]
 mod tests {
     use drawing::record::Record;

@@ -1,4 +1,6 @@
 // Draws the packed records of the map file on standard input, and names its other sections.
+#![tactic(auto)]
+
 use drawing::record::Record;
 use mapfile::{LONGEST, MapFile, Refusal, Section};
 use mirror::Mirror;

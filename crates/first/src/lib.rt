@@ -1,5 +1,7 @@
 // Numbered rules over places: the fields of a record, the entries of a file, the steps of a routine.
 // A rule is tried over all its places before the next, and a refusal names the rule's number and its first bad place.
+#![tactic(auto)]
+
 ghost use Rattle.std.specs.Prelude.{◌≡◌, ℕ, ◌<◌, Decides};
 ghost use Rattle.first.specs.First.{First, Granted, Numbered, Only, Somewhere};
 

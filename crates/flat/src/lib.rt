@@ -1,4 +1,6 @@
 // The flat store: a whole cell for each byte.
+#![tactic(auto)]
+
 ghost use Rattle.std.specs.Prelude.{◌≡◌, ◌<◌, length};
 ghost use Rattle.store.specs.Cells.{Whole, unallocated};
 ghost use Rattle.store.specs.Placing.{carried, span_in};

@@ -1,4 +1,5 @@
 // Examples of layouts: which bodies are refused, what their fields are, and the cells that they place.
+#![tactic(auto)]
 
 #[cfg(test)]
 mod tests {

@@ -1,4 +1,6 @@
 // Numbers in bytes, the low byte first. Bytes past the end read as 0, so that every question has an answer.
+#![tactic(auto)]
+
 ghost use Rattle.std.specs.Prelude.{◌≡◌, ◌+◌};
 ghost use Rattle.little_endian.specs.Numbers.{byte, two, four};
 

@@ -1,4 +1,6 @@
 // Reads a map file: a count, that many entries, and the bodies that they name. Nothing is copied: each section is a part of the file.
+#![tactic(auto)]
+
 mod bytes;
 mod entries;
 mod reader;

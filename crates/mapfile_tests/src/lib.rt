@@ -1,4 +1,6 @@
 // What the reader answers on files written out by hand.
+#![tactic(auto)]
+
 ghost use Rattle.std.specs.Prelude.{◌≤◌};
 
 #[cfg(test)]

@@ -1,4 +1,6 @@
 // Memory: 4,096 bytes, a tag store and the open areas.
+#![tactic(auto)]
+
 ghost use Rattle.std.specs.Prelude.{◌≡◌, length};
 
 use areas::areas::Areas;

@@ -1,4 +1,5 @@
 // Examples of memory over each store: areas, accesses, records and what areas lead to.
+#![tactic(auto)]
 
 #[cfg(test)]
 mod tests {

@@ -1,4 +1,6 @@
 // The mirror: a nibble for each byte of memory.
+#![tactic(auto)]
+
 ghost use Rattle.std.specs.Prelude.{◌≡◌, ℕ, ◌+◌, ◌<◌, ◌≤◌, true, length, if◌then◌else◌, nat_eq};
 ghost use Rattle.store.specs.Cells.{Whole, kind_of, is_size, sound};
 ghost use Rattle.store.specs.Placing.{carried, span_in};

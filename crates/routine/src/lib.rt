@@ -1,4 +1,6 @@
 // Routines: bodies that the rules accept, and the verdict on claims about their checks.
+#![tactic(auto)]
+
 mod flow;
 pub mod routine;
 mod rules;

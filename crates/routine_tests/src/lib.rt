@@ -1,4 +1,5 @@
 // Examples of routines: which bodies are refused, and the verdicts on claims.
+#![tactic(auto)]
 
 #[cfg(test)]
 mod tests {

@@ -1,4 +1,6 @@
 // Reachability over any graph of numbered nodes, in marks that the caller lends and gets back zeroed.
+#![tactic(auto)]
+
 ghost use Rattle.std.specs.Prelude.{◌≡◌, ℕ, ◌<◌, ◌≤◌, Bool, length, Option};
 ghost use Rattle.search.specs.Paths.{Edge, Walk, Unstopped};
 ghost use Rattle.search.specs.Stops.{open_slots};

@@ -1,4 +1,6 @@
 // Uses of the search from another crate, over any graph, and its tests.
+#![tactic(auto)]
+
 ghost use Rattle.std.specs.Prelude.{◌≡◌, ℕ, ◌<◌, ◌≤◌, length};
 ghost use Rattle.search.specs.Paths.{Edge, Walk};
 ghost use Rattle.search.specs.Marks.{Clear};

@@ -1,4 +1,6 @@
 // Tag stores: the kinds and cells that they keep, their two halves, and what the halves promise.
+#![tactic(auto)]
+
 pub mod halves;
 pub mod laying;
 pub mod placing;

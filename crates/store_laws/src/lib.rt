@@ -1,4 +1,6 @@
 // What a user of cells may rely on: laws of memory and of placing, and code over any store that is proved from the promise of its halves alone.
+#![tactic(auto)]
+
 ghost use Rattle.std.specs.Prelude.{◌≡◌, if◌then◌else◌, Ok, Err};
 ghost use Rattle.store.specs.Cells.{kind_of, refused, put, reply};
 ghost use Rattle.store_laws.specs.Listed.{Listing};

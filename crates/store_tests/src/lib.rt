@@ -1,4 +1,6 @@
 // Examples of the store rules, on both stores.
+#![tactic(auto)]
+
 #[cfg(test)]
 mod tests {
     use flat::Flat;

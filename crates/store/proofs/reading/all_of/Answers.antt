@@ -12,4 +12,4 @@ returns-then-not-is-kind g c =
 pub loop-i-preserved : goal.loop-i-preserved
 loop-i-preserved g c =
     let m = g.C.Cells.cells c.args.store.now in
-    rw add-one (and_from (all_of m c.args.kind c.args.address c.loop-i.i) (same (m (c.args.address + c.loop-i.i)).kind c.args.kind) c.loop-i.invariant (sym c.if-not-is-kind.ensures))
+    rw add-one (and_from (all_of m c.args.kind c.args.address c.loop-i.i) (same (m (c.args.address + c.loop-i.i)).kind c.args.kind) c.loop-i.invariant (sym c.if-not-is_kind.ensures))

@@ -13,7 +13,7 @@ returns-in-Uninitialized g c =
     let m = g.C.Cells.cells c.args.store.now in
     let a = c.args.address in
     let here = asked_is m a c.in-Some.first c.in-Some.ensures in
-    c.read-uniform.ensures
+    c.read_uniform.ensures
     ∙ read_uninitialized m a c.args.size c.requires.0 ((g.met.C.Cells.whole c.args.store.now).1 a) (ap (λ x. x.kind) here ∙ c.in-Uninitialized.is)
 
 pub returns-in-Zero : goal.returns-in-Zero
@@ -21,7 +21,7 @@ returns-in-Zero g c =
     let m = g.C.Cells.cells c.args.store.now in
     let a = c.args.address in
     let here = asked_is m a c.in-Some.first c.in-Some.ensures in
-    c.read-uniform-in-Zero.ensures
+    c.read_uniform-in-Zero.ensures
     ∙ read_zero m a c.args.size c.requires.0 ((g.met.C.Cells.whole c.args.store.now).1 a) (ap (λ x. x.kind) here ∙ c.in-Zero.is)
 
 pub returns-in-default : goal.returns-in-default
