@@ -3,15 +3,15 @@ use Rattle.store.proofs.Numbers.{inside_of}
 use Rattle.mirror.specs.Nibbles.{nibbles, place_in, decoded, size_from}
 use Rattle.mirror.proofs.decode.Goals as goal
 
-pub overflow-cast-result : goal.overflow-cast-result
-overflow-cast-result c =
+pub overflow_cast-result : goal.overflow_cast-result
+overflow_cast-result c =
     let f = nibbles c.args.bytes.now in
     let inside = inside_of (decoded f c.args.i) (c.requires.whole.1 c.args.i) in
     let place = c.position-position.ensures.value in
-    let size : c.size-from.result ≡ size_from (f (c.args.i - place_in f c.args.i + 1)) =
-    c.size-from.ensures ∙ ap size_from (c.nibble-2.ensures.value ∙ ap (λ p. f (c.args.i - p + 1)) place) in
-    let l : c.position-position.result < 256 = omega (arith, c.size-from.type-inv) in
+    let size : c.size_from.result ≡ size_from (f (c.args.i - place_in f c.args.i + 1)) =
+    c.size_from.ensures ∙ ap size_from (c.nibble-2.ensures.value ∙ ap (λ p. f (c.args.i - p + 1)) place) in
+    let l : c.position-position.result < 256 = omega (arith, c.size_from.type-inv) in
     search rules
 
 pub returns : goal.returns
-returns c = simp (c.kind-from.ensures, c.nibble.ensures.value, c.size-from.ensures, c.nibble-2.ensures.value, c.position-position.ensures.value)
+returns c = simp (c.kind_from.ensures, c.nibble.ensures.value, c.size_from.ensures, c.nibble-2.ensures.value, c.position-position.ensures.value)

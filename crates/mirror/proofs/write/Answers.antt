@@ -6,21 +6,21 @@ use Rattle.mirror.specs.Nibbles.{nibbles, nibble_of, decoded}
 use Rattle.mirror.proofs.Decoding.{laid_more, chosen_nibble, stands_for}
 use Rattle.mirror.proofs.write.Goals as goal
 
-pub nibble-of-v-requires : goal.nibble-of-v-requires
-nibble-of-v-requires c = rw c.cell.ensures (sound-laid c.args.placing c.loop-i.i)
+pub nibble_of-v-requires : goal.nibble_of-v-requires
+nibble_of-v-requires c = rw c.cell.ensures (sound-laid c.args.placing c.loop-i.i)
 
-pub set-nibble-requires : goal.set-nibble-requires
-set-nibble-requires c =
+pub set_nibble-requires : goal.set_nibble-requires
+set_nibble-requires c =
     let m = decoded (nibbles c.args.bytes.now) in
     let h : c.span-low.result.1 ≤ 4096 = rw c.span-low.ensures (span_within m c.requires.whole c.args.placing) in
-    (omega (arith, c.requires.long), (omega arith, c.nibble-of-v.ensures.small))
+    (omega (arith, c.requires.long), (omega arith, c.nibble_of-v.ensures.small))
 
 pub loop-i-preserved : goal.loop-i-preserved
 loop-i-preserved c = λ j.
     let lay : ℕ → ℕ = λ i. nibble_of (laid c.args.placing i) in
-    let here : c.nibble-of-v.result ≡ lay c.loop-i.i = c.nibble-of-v.ensures.value ∙ ap nibble_of c.cell.ensures in
-    c.set-nibble.ensures j
-    ∙ laid_more c.span-low.result.0 c.loop-i.i j c.nibble-of-v.result (nibbles c.loop-i.bytes j) (lay j) (nibbles c.args.bytes.now j)
+    let here : c.nibble_of-v.result ≡ lay c.loop-i.i = c.nibble_of-v.ensures.value ∙ ap nibble_of c.cell.ensures in
+    c.set_nibble.ensures j
+    ∙ laid_more c.span-low.result.0 c.loop-i.i j c.nibble_of-v.result (nibbles c.loop-i.bytes j) (lay j) (nibbles c.args.bytes.now j)
     c.loop-i.auto.i (λ e. here ∙ ap lay (sym e)) (c.loop-i.invariant j)
 
 pub returns : goal.returns

@@ -1,7 +1,7 @@
 use Rattle.std.proofs.Common.{◌≡◌, ℕ, ◌<◌, ◌≤◌, length, get_or, sym, ◌∙◌, subst, arith, length-set}
 use Rattle.search.proofs.Frontier.{begun, roomy, grown_more, grown_start, same, slot_new, slot_old, slots_over, ended}
 use Rattle.search.proofs.spread.Goals as goal
-use Rattle.search.proofs.spread.Goals.{in-Some+then-marks-next-eq0+then-next-from, in-Some+then-marks-next-eq0+else-next-from, in-Some+else-marks-next-eq0, in-default}
+use Rattle.search.proofs.spread.Goals.{in-Some+then-marks-next-eq0+then-next-from, in-Some+then-marks-next-eq0+else-next-from, in-Some+else-marks-next-eq0, in_default}
 
 pub loop-head-init : goal.loop-head-init
 loop-head-init g c = begun _ _ _ _ _ (omega arith) (omega arith) c.requires.clear
@@ -32,7 +32,7 @@ loop-slot-preserved g c =
           (slot_old f (λ j e z. let eq : j ≡ w.in-Some.next = cc (leads, w.in-Some.is) in w.if-marks-next-eq0.false (subst (λ x. get_or c.loop-slot.marks x 0 ≡ 0) eq z)))
       | in-default w ↦
           same w.marks-is w.queue-is w.tail-is
-          (slot_old f (λ j e z. let bad : ◌≡◌ {A = ℕ} 0 1 = cc (leads, w.in-default.is) in omega arith))
+          (slot_old f (λ j e z. let bad : ◌≡◌ {A = ℕ} 0 1 = cc (leads, w.in_default.is) in omega arith))
     ]
 
 pub loop-head-preserved : goal.loop-head-preserved

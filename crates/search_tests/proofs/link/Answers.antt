@@ -13,7 +13,7 @@ loop-pair-preserved g c =
     let old = c.args.pairs.now in
     let edge = Edge (g.G.Graph.slots c.args.graph.now) (g.G.Graph.leads c.args.graph.now) in
     let z : Pair = record { from = 0; to = 0; linked = false } in
-    let x : Pair = record { from = (get_or xs k z).from; to = (get_or xs k z).to; linked = c.is-marked-pair.result } in
+    let x : Pair = record { from = (get_or xs k z).from; to = (get_or xs k z).to; linked = c.is_marked-pair.result } in
     let lt : k < length xs = omega arith in
     let was : (d : Pair) → get_or xs k z ≡ get_or old k d = λ d. get_or_default xs k z d lt ∙ inv.3 k d (omega arith) in
     let here : (d : Pair) → Linked edge (get_or old k d) x = λ d. record { from = ap (λ p. p.from) (was d); to = ap (λ p. p.to) (was d); linked = search rules } in (

@@ -13,12 +13,12 @@ loop-node-preserved g c =
     let xs = c.loop-node.near in
     let k = c.loop-node.node in
     let b = c.if-node-from.near in
-    let marked = decides_mark {path = Walk edge from} {marks = c.follow.new.self.all.now} c.in-ok-follow.ensures.answer.1 k in
+    let marked = decides_mark {path = Walk edge from} {marks = c.follow.new.self.all.now} c.in_ok-follow.ensures.answer.1 k in
     let inside : k < length xs = omega (arith, c.loop-node.invariant.0) in
     let here : Near edge from k b = elim c.if-node-from.branch [
       | then-node-from w ↦ (λ _. inl w.if-node-from.true, λ _. w.near-is ∙ eq-eqb k from w.if-node-from.true)
       | else-node-from w ↦
-          let is = w.near-is ∙ w.is-marked.ensures in
+          let is = w.near-is ∙ w.is_marked.ensures in
           (λ t. inr (marked.0 (sym is ∙ t)), ⊎_elim (λ e. absurd (w.if-node-from.false e)) (λ p. is ∙ marked.1 p))
     ] in (
       simp length-set c.loop-node.invariant.0,

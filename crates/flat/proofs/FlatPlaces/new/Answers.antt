@@ -2,8 +2,8 @@ use lib.ListN.{length-replicate}
 use Rattle.flat.proofs.Held.{memory_new, whole_new}
 use Rattle.flat.proofs.FlatPlaces.new.Goals as goal
 
-pub invariant-of-result : goal.invariant-of-result
-invariant-of-result c = (length-replicate 4096 c.unused.result, (whole_new 4096 c.unused.result c.unused.ensures, tt))
+pub invariant_of-result : goal.invariant_of-result
+invariant_of-result c = (length-replicate 4096 c.unused.result, (whole_new 4096 c.unused.result c.unused.ensures, tt))
 
 pub returns : goal.returns
 returns c = memory_new 4096 c.unused.result c.unused.ensures

@@ -4,7 +4,7 @@ use Rattle.store.proofs.Objects.{whole-carried}
 use Rattle.flat.specs.Rows.{memory}
 use Rattle.flat.proofs.FlatPlaces.place.Goals as goal
 
-pub invariant-of-self : goal.invariant-of-self
-invariant-of-self c =
+pub invariant_of-self : goal.invariant_of-self
+invariant_of-self c =
     let long : length c.write.new.held ≡ 4096 = omega (arith, c.args.self.now.long, c.write.auto.held) in
-    (long, (subst Whole (sym c.write.ensures) (whole-carried (memory c.args.self.now.held) c.args.self.now.ok c.in-ok-placing.placing), tt))
+    (long, (subst Whole (sym c.write.ensures) (whole-carried (memory c.args.self.now.held) c.args.self.now.ok c.in_ok-placing.placing), tt))

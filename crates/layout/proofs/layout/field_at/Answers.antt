@@ -17,10 +17,10 @@ field_is : (b : List ℕ) (k : ℕ) (t : Scalar) (address reset : ℕ) → addre
     → ◌≡◌ {A = Option Field} (Some (record { scalar = t; address = address; reset = reset })) (Some (field_of b k t))
 field_is b k t address reset p q = λ i. Some (record { scalar = t; address = p i; reset = q i })
 
-pub returns-in-err-scalar : goal.returns-in-err-scalar
-returns-in-err-scalar c = c.from-residual.ensures ∙ field_by c.args.body.now c.args.k c.byte-at.result None c.in-err-scalar.ensures c.byte-at.ensures
+pub returns-in_err-scalar : goal.returns-in_err-scalar
+returns-in_err-scalar c = c.from_residual.ensures ∙ field_by c.args.body.now c.args.k c.byte_at.result None c.in_err-scalar.ensures c.byte_at.ensures
 
 pub returns : goal.returns
 returns c =
-    field_is c.args.body.now c.args.k c.in-ok-scalar.scalar c.address-at.result c.u32-at.result c.address-at.ensures c.u32-at.ensures
-    ∙ field_by c.args.body.now c.args.k c.byte-at.result (Some c.in-ok-scalar.scalar) c.in-ok-scalar.ensures c.byte-at.ensures
+    field_is c.args.body.now c.args.k c.in_ok-scalar.scalar c.address_at.result c.u32_at.result c.address_at.ensures c.u32_at.ensures
+    ∙ field_by c.args.body.now c.args.k c.byte_at.result (Some c.in_ok-scalar.scalar) c.in_ok-scalar.ensures c.byte_at.ensures

@@ -8,5 +8,5 @@ returns c =
     let file = c.args.file.now in
     let entry = c.args.entry in
     clipped file (offset_at file entry) (length_at file entry) _ _
-    (c.min-from.ensures ∙ ap (min (length file)) c.offset-at.ensures)
-    (c.min-to.ensures ∙ ap (min (length file)) c.end-at.ensures)
+    (c.min-from.ensures ∙ ap (min (length file)) c.offset_at.ensures)
+    (c.min-to.ensures ∙ ap (min (length file)) c.end_at.ensures)

@@ -6,9 +6,9 @@ use Rattle.mapfile.proofs.reader.accept.Goals as goal
 pub returns : goal.returns
 returns c =
     inr (
-      not_from_Decides _ c.is-unreadable.ensures c.if-is-unreadable.false,
+      not_from_Decides _ c.is_unreadable.ensures c.if-is_unreadable.false,
       inr (
-        granted_nowhere _ _ _ c.in-ok-try-number.ensures.allows,
-        inr (not_from_Decides _ c.is-incomplete.ensures c.if-is-incomplete.false, refl),
+        granted_nowhere _ _ _ c.in_ok-try_number.ensures.allows,
+        inr (not_from_Decides _ c.is_incomplete.ensures c.if-is_incomplete.false, refl),
       ),
     )

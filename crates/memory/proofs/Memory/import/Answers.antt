@@ -12,14 +12,14 @@ use Rattle.memory.proofs.Placed.{all-inside, granted_keeps, with_byte}
 use Rattle.memory.proofs.Reaching.{state_is, tied_laid}
 use Rattle.memory.proofs.Memory.import.Goals as goal
 
-pub write-fields-requires : goal.write-fields-requires
-write-fields-requires g c =
+pub write_fields-requires : goal.write_fields-requires
+write_fields-requires g c =
     let s = c.args.self.now in
     let b = c.args.body.now in
-    let h = c.in-ok-layout.ensures in
+    let h = c.in_ok-layout.ensures in
     let keeps = granted_keeps (opened s.areas) b (Ok tt) h.answer.allows refl in
     let inside = all-inside (opened s.areas) b (count_of b) s.areas.apart keeps.1 in
-    let l = c.in-ok-layout.layout in
+    let l = c.in_ok-layout.layout in
     record { long = s.long; inside = subst (λ (x : List ℕ). Inside x l.count) (sym h.layout.0) (subst (Inside b) (sym h.layout.1) inside) }
 
 pub returns : goal.returns
@@ -27,11 +27,11 @@ returns g c =
     let s = view g.S.Cells.cells c.args.self.now in
     let b = c.args.body.now in
     let n = count_of b in
-    let h = c.in-ok-layout.ensures in
-    let l = c.in-ok-layout.layout in
+    let h = c.in_ok-layout.ensures in
+    let l = c.in_ok-layout.layout in
     let keeps = granted_keeps s.areas b (Ok tt) h.answer.allows refl in
     let inside = all-inside s.areas b n c.args.self.now.areas.apart keeps.1 in
-    let bytes : held c.write-fields.new.bytes ≡ laid_bytes s.bytes b n = c.write-fields.ensures ∙ (λ i. laid_bytes s.bytes (h.layout.0 i) (h.layout.1 i)) in
+    let bytes : held c.write_fields.new.bytes ≡ laid_bytes s.bytes b n = c.write_fields.ensures ∙ (λ i. laid_bytes s.bytes (h.layout.0 i) (h.layout.1 i)) in
     let cells : g.S.Cells.cells c.place.new.store ≡ laid_cells s.cells b n = c.place.ensures.cells ∙ (λ i. laid_cells s.cells (h.layout.0 i) (h.layout.1 i)) in
     let is = state_is _ (imports s b) bytes cells refl in
     let laid = c.place.ensures.law b h.layout keeps.0 inside in

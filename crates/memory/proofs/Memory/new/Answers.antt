@@ -6,8 +6,8 @@ use Rattle.memory.proofs.Tying.{tied_new}
 use Rattle.memory.proofs.Reaching.{state_is, always_tied}
 use Rattle.memory.proofs.Memory.new.Goals as goal
 
-pub invariant-of-result : goal.invariant-of-result
-invariant-of-result g c = (length-replicate {A = ℕ} 4096 c.unwritten.result, tt)
+pub invariant_of-result : goal.invariant_of-result
+invariant_of-result g c = (length-replicate {A = ℕ} 4096 c.unwritten.result, tt)
 
 pub returns : goal.returns
 returns g c =

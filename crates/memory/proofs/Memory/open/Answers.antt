@@ -13,7 +13,7 @@ returns g c =
     let s = view g.S.Cells.cells c.args.self.now in
     let a = c.args.start in
     let n = c.args.size in
-    let h = c.in-ok-open.ensures in
+    let h = c.in_ok-open.ensures in
     let now = state_is _ (opens s a n) refl c.mark.ensures h.areas in
     record {
       answer = h.answer;

@@ -17,8 +17,8 @@ was_found None x e = let no_such : ◌≡◌ {A = ℕ} 0 1 = cc in absurd (omega
 pub returns : goal.returns
 returns g c =
     let s = view g.S.Cells.cells c.args.self.now in
-    let x = c.in-ok-area.area in
-    let h = c.in-ok-area.ensures in
+    let x = c.in_ok-area.area in
+    let h = c.in_ok-area.ensures in
     let found = was_found _ x h.answer in
     let start = found_start c.args.start s.areas x c.args.self.now.areas.apart found in
     let now = state_is _ (shuts s x) c.wipe.ensures c.mark.ensures (h.areas ∙ ap (λ (a : ℕ). without a s.areas) (sym h.within.0)) in

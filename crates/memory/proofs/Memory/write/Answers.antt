@@ -13,7 +13,7 @@ returns g c =
     let n = c.args.size in
     let v = c.args.value in
     let k = c.args.kind in
-    let h = c.if-not-is-accessible.ensures in
+    let h = c.if-not-is_accessible.ensures in
     let now = state_is _ (writes s a n v k) c.write.ensures (c.place.ensures.left ∙ ap (λ x. put s.cells a x n) c.number.ensures) refl in
     record {
       answer = h.value;

@@ -11,13 +11,13 @@ more v x i n z h l s t =
     let b = below_more (i - 1) n v x (omega arith) t (subst (λ (k : ℕ). v < 256 ^ (n - k)) (sym e) s) in
     omega (arith, access_fits (n - (i - 1)) (omega arith))
 
-pub overflow-mul-value : goal.overflow-mul-value
-overflow-mul-value c =
+pub overflow_mul-value : goal.overflow_mul-value
+overflow_mul-value c =
     let m = more c.loop-i.value 0 c.loop-i.i c.args.size (omega arith) (omega arith) c.requires.few c.loop-i.invariant.1 (omega arith) in
     search rules
 
-pub overflow-add-value-in-loop-i : goal.overflow-add-value-in-loop-i
-overflow-add-value-in-loop-i c =
+pub overflow_add-value-in-loop-i : goal.overflow_add-value-in-loop-i
+overflow_add-value-in-loop-i c =
     let x = get_or c.args.bytes.now (c.args.at + (c.loop-i.i - 1)) 0 in
     let f : x < 256 = search rules in
     let m = more c.loop-i.value x c.loop-i.i c.args.size (omega arith) (omega arith) c.requires.few c.loop-i.invariant.1 f in

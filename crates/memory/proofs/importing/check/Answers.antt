@@ -22,30 +22,30 @@ refusal xs b r e is h = subst (λ x. Only (Allowed xs b) (answer_of x)) (sym is)
 nothing : (P : Layout → Type 0) (r : Result Layout (ℕ × ℕ)) (e : ℕ × ℕ) → r ≡ Err e → IfOk r P
 nothing P r e is = subst (λ x. IfOk x P) (sym is) tt
 
-pub returns-in-err-layout : goal.returns-in-err-layout
-returns-in-err-layout c =
+pub returns-in_err-layout : goal.returns-in_err-layout
+returns-in_err-layout c =
     let xs = opened c.args.areas.now in
     let b = c.args.body.now in
-    let p = err_from_is_err_and c.from-residual.result c.from-residual.ensures.1 in
-    let e = c.in-err-layout.field-0.0 in
+    let p = err_from_is_err_and c.from_residual.result c.from_residual.ensures.1 in
+    let e = c.in_err-layout.field-0.0 in
     let is = p.1 ∙ ap Err p.2 in
-    record { answer = refusal xs b _ e is (answer_body xs b e c.in-err-layout.ensures.answer); layout = nothing _ _ e is }
+    record { answer = refusal xs b _ e is (answer_body xs b e c.in_err-layout.ensures.answer); layout = nothing _ _ e is }
 
-pub returns-in-err-try-number : goal.returns-in-err-try-number
-returns-in-err-try-number c =
+pub returns-in_err-try_number : goal.returns-in_err-try_number
+returns-in_err-try_number c =
     let xs = opened c.args.areas.now in
     let b = c.args.body.now in
-    let p = err_from_is_err_and c.from-residual-in-err-try-number.result c.from-residual-in-err-try-number.ensures.1 in
-    let h = c.in-ok-layout.ensures in
-    let e = c.in-err-try-number.field-0.0 in
+    let p = err_from_is_err_and c.from_residual-in_err-try_number.result c.from_residual-in_err-try_number.ensures.1 in
+    let h = c.in_ok-layout.ensures in
+    let e = c.in_err-try_number.field-0.0 in
     let is = p.1 ∙ ap Err p.2 in
-    let only = homes xs b _ _ h.layout.0 h.layout.1 h.answer (Err e) c.in-err-try-number.ensures in
+    let only = homes xs b _ _ h.layout.0 h.layout.1 h.answer (Err e) c.in_err-try_number.ensures in
     record { answer = refusal xs b _ e is only; layout = nothing _ _ e is }
 
 pub returns : goal.returns
 returns c =
-    let h = c.in-ok-layout.ensures in
+    let h = c.in_ok-layout.ensures in
     record {
-      answer = homes (opened c.args.areas.now) c.args.body.now _ _ h.layout.0 h.layout.1 h.answer (Ok tt) c.in-ok-try-number.ensures;
+      answer = homes (opened c.args.areas.now) c.args.body.now _ _ h.layout.0 h.layout.1 h.answer (Ok tt) c.in_ok-try_number.ensures;
       layout = h.layout;
     }

@@ -9,4 +9,4 @@ loop-k-preserved c =
     let b = c.args.layout.now.body.now in
     let k = c.loop-k.k in
     let field : c.field.result ≡ field_at b k = search rules in
-    rw add-one (c.write-field.ensures ∙ (λ i. write_field (c.loop-k.invariant i) (field i)))
+    rw add-one (c.write_field.ensures ∙ (λ i. write_field (c.loop-k.invariant i) (field i)))

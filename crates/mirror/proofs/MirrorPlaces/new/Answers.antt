@@ -6,8 +6,8 @@ use Rattle.mirror.specs.Nibbles.{nibble_of}
 use Rattle.mirror.proofs.Decoding.{nibbles-zero, decoded-zero}
 use Rattle.mirror.proofs.MirrorPlaces.new.Goals as goal
 
-pub invariant-of-result : goal.invariant-of-result
-invariant-of-result c =
+pub invariant_of-result : goal.invariant_of-result
+invariant_of-result c =
     let z = c.unused.ensures in
     let new = decoded-zero 2048 c.unused.result z in (
       length-replicate {A = ℕ} 2048 c.unused.result,

@@ -24,15 +24,15 @@ returns-in-Zero g c =
     c.read_uniform-in-Zero.ensures
     ∙ read_zero m a c.args.size c.requires.0 ((g.met.C.Cells.whole c.args.store.now).1 a) (ap (λ x. x.kind) here ∙ c.in-Zero.is)
 
-pub returns-in-default : goal.returns-in-default
-returns-in-default g c =
+pub returns-in_default : goal.returns-in_default
+returns-in_default g c =
     let m = g.C.Cells.cells c.args.store.now in
     let a = c.args.address in
     let first = c.in-Some.first in
     let here = asked_is m a first c.in-Some.ensures in
     let kind : (m a).kind ≡ first.kind = ap (λ x. x.kind) here in
-    c.read-object.ensures
+    c.read_object.ensures
     ∙ sym (read_object m a c.args.size c.requires.0
-    (rw kind (ne_eqb (number_of first.kind) 1 (λ e. c.in-default.not-Uninitialized (same_kind first.kind Uninitialized e))))
-    (rw kind (ne_eqb (number_of first.kind) 2 (λ e. c.in-default.not-Zero (same_kind first.kind Zero e))))
+    (rw kind (ne_eqb (number_of first.kind) 1 (λ e. c.in_default.not-Uninitialized (same_kind first.kind Uninitialized e))))
+    (rw kind (ne_eqb (number_of first.kind) 2 (λ e. c.in_default.not-Zero (same_kind first.kind Zero e))))
     ∙ rw here refl)

@@ -7,6 +7,6 @@ pub returns : goal.returns
 returns c =
     let s = c.args.self.now in
     record {
-      value = c.has-all.ensures;
-      within = λ h. lawful-within (opened s) c.args.address c.args.bytes s.apart (sym c.has-all.ensures ∙ h);
+      value = c.has_all.ensures;
+      within = λ h. lawful-within (opened s) c.args.address c.args.bytes s.apart (sym c.has_all.ensures ∙ h);
     }

@@ -9,19 +9,19 @@ use Rattle.areas.proofs.areas.Areas.open.Goals as goal
 pub insert-requires : goal.insert-requires
 insert-requires c =
     let s = c.args.self.now in
-    let h = opening_room s.list s.count c.args.start c.args.size s.long s.room c.in-ok-check-open.ensures in
+    let h = opening_room s.list s.count c.args.start c.args.size s.long s.room c.in_ok-check_open.ensures in
     record { room = omega (arith, s.long); apart = s.apart }
 
-pub invariant-of-self : goal.invariant-of-self
-invariant-of-self c =
+pub invariant_of-self : goal.invariant_of-self
+invariant_of-self c =
     let s = c.args.self.now in
-    let o = opening-ordered (opened s) c.args.start c.args.size c.in-ok-check-open.ensures s.apart in
-    let h = opening_room s.list s.count c.args.start c.args.size s.long s.room c.in-ok-check-open.ensures in
+    let o = opening-ordered (opened s) c.args.start c.args.size c.in_ok-check_open.ensures s.apart in
+    let h = opening_room s.list s.count c.args.start c.args.size s.long s.room c.in_ok-check_open.ensures in
     (search rules, (omega arith, (subst (λ l. ordered l ≡ true) (sym c.insert.ensures) o, tt)))
 
 pub returns : goal.returns
 returns c =
     let s = c.args.self.now in
     let a = area_of c.args.start c.args.size in
-    let o = opening-ordered (opened s) c.args.start c.args.size c.in-ok-check-open.ensures s.apart in
+    let o = opening-ordered (opened s) c.args.start c.args.size c.in_ok-check_open.ensures s.apart in
     record { answer = search rules; areas = c.insert.ensures; law = subst (Added (opened s) a) (sym c.insert.ensures) (added a (opened s) o) }

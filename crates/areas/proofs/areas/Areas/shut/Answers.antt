@@ -5,8 +5,8 @@ use Rattle.areas.specs.Calls.{opened}
 use Rattle.areas.proofs.Order.{kept-ordered, found_within}
 use Rattle.areas.proofs.areas.Areas.shut.Goals as goal
 
-pub invariant-of-self : goal.invariant-of-self
-invariant-of-self c =
+pub invariant_of-self : goal.invariant_of-self
+invariant_of-self c =
     let s = c.args.self.now in (
       search rules,
       (

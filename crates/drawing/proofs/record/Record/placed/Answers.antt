@@ -14,11 +14,11 @@ use Rattle.drawing.proofs.record.Record.placed.Goals as goal
 pub returns : goal.returns
 returns g c =
     let l = c.args.self.now.layout in
-    let m = g.S.Cells.cells c.place-in-new.result in
+    let m = g.S.Cells.cells c.place_in_new.result in
     let shown : (b : List ℕ) → Reads b l → Allowed b (Ok tt) → (i : ℕ) → Shown b i (m i) = λ b reads allowed i.
     let parts = granted_parts b (Ok tt) allowed refl in
     let laid = body_laid empty whole-empty b parts.0 (inside b (count_of b) parts.1) in
-    let cells : m ≡ laid_cells empty b (count_of b) = c.place-in-new.ensures ∙ (λ t. laid_cells empty (reads.0 t) (reads.1 t)) in
+    let cells : m ≡ laid_cells empty b (count_of b) = c.place_in_new.ensures ∙ (λ t. laid_cells empty (reads.0 t) (reads.1 t)) in
     subst (λ (o : Memory). Shown b i (o i)) (sym cells) (shows b i _ (laid i)) in
     record {
       cells = shown;

@@ -18,29 +18,29 @@ nothing P r e is = subst (λ x. IfOk x P) (sym is) tt
 of_body : (b : List ℕ) (body : List ℕ) (n : ℕ) (a : Answer) → (body ≡ b) × (n ≡ count_of b) → Only (Numbered 27 (Past body) n Granted) a → Only (Numbered 27 (Past b) (count_of b) Granted) a
 of_body b body n a reads h = subst (λ (x : List ℕ × ℕ). Only (Numbered 27 (Past x.0) x.1 Granted) a) (λ t. (reads.0 t, reads.1 t)) h
 
-pub returns-in-err-layout : goal.returns-in-err-layout
-returns-in-err-layout c =
+pub returns-in_err-layout : goal.returns-in_err-layout
+returns-in_err-layout c =
     let b = c.args.body.now in
-    let p = err_from_is_err_and c.from-residual.result c.from-residual.ensures.1 in
-    let e = c.in-err-layout.field-0.0 in
+    let p = err_from_is_err_and c.from_residual.result c.from_residual.ensures.1 in
+    let e = c.in_err-layout.field-0.0 in
     let is = p.1 ∙ ap Err p.2 in
-    record { answer = refusal b _ e is (answer_layout b e c.in-err-layout.ensures.answer); layout = nothing _ _ e is }
+    record { answer = refusal b _ e is (answer_layout b e c.in_err-layout.ensures.answer); layout = nothing _ _ e is }
 
-pub returns-in-err-try-number : goal.returns-in-err-try-number
-returns-in-err-try-number c =
+pub returns-in_err-try_number : goal.returns-in_err-try_number
+returns-in_err-try_number c =
     let b = c.args.body.now in
-    let told = c.in-ok-layout.ensures in
-    let p = err_from_is_err_and c.from-residual-in-err-try-number.result c.from-residual-in-err-try-number.ensures.1 in
-    let e = c.in-err-try-number.field-0.0 in
+    let told = c.in_ok-layout.ensures in
+    let p = err_from_is_err_and c.from_residual-in_err-try_number.result c.from_residual-in_err-try_number.ensures.1 in
+    let e = c.in_err-try_number.field-0.0 in
     let is = p.1 ∙ ap Err p.2 in
     record {
-      answer = refusal b _ e is (answer_past b (Err e) told.answer (of_body b _ _ (Err e) told.layout c.in-err-try-number.ensures));
+      answer = refusal b _ e is (answer_past b (Err e) told.answer (of_body b _ _ (Err e) told.layout c.in_err-try_number.ensures));
       layout = nothing _ _ e is;
     }
 
 pub returns : goal.returns
 returns c =
     let b = c.args.body.now in
-    let told = c.in-ok-layout.ensures in
-    let past = of_body b _ _ (Ok tt) told.layout c.in-ok-try-number.ensures in
+    let told = c.in_ok-layout.ensures in
+    let past = of_body b _ _ (Ok tt) told.layout c.in_ok-try_number.ensures in
     record { answer = answer_past b (Ok tt) told.answer past; layout = told.layout }

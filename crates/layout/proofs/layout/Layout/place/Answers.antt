@@ -5,7 +5,7 @@ use Rattle.layout.proofs.layout.Layout.place.Goals as goal
 
 pub loop-k-preserved : goal.loop-k-preserved
 loop-k-preserved g c =
-    rw add-one (c.place-field.ensures ∙ (λ i. put_field (c.loop-k.invariant i) (c.field-at.ensures i)))
+    rw add-one (c.place_field.ensures ∙ (λ i. put_field (c.loop-k.invariant i) (c.field_at.ensures i)))
 
 pub returns : goal.returns
 returns g c =

@@ -13,23 +13,23 @@ refusal b r e is h = subst (λ x. Only (Allowed b) (answer_of x)) (sym is) h
 nothing : (P : Layout → Type 0) (r : Result Layout (ℕ × ℕ)) (e : ℕ × ℕ) → r ≡ Err e → IfOk r P
 nothing P r e is = subst (λ x. IfOk x P) (sym is) tt
 
-pub returns-in-err-count : goal.returns-in-err-count
-returns-in-err-count c =
+pub returns-in_err-count : goal.returns-in_err-count
+returns-in_err-count c =
     let b = c.args.body.now in
-    let p = err_from_is_err_and c.from-residual.result c.from-residual.ensures.1 in
-    let h = c.in-err-count.ensures in
+    let p = err_from_is_err_and c.from_residual.result c.from_residual.ensures.1 in
+    let h = c.in_err-count.ensures in
     let is = p.1 ∙ ap Err (p.2 ∙ h.1) in
     record { answer = refusal b _ (8, 0) is (answer-length b h.0); layout = nothing _ _ (8, 0) is; fields = nothing _ _ (8, 0) is }
 
-pub returns-in-err-try-two : goal.returns-in-err-try-two
-returns-in-err-try-two c =
+pub returns-in_err-try_two : goal.returns-in_err-try_two
+returns-in_err-try_two c =
     let b = c.args.body.now in
-    let p = err_from_is_err_and c.from-residual-in-err-try-two.result c.from-residual-in-err-try-two.ensures.1 in
-    let m = c.in-ok-count.ensures in
-    let e = c.in-err-try-two.field-0.0 in
+    let p = err_from_is_err_and c.from_residual-in_err-try_two.result c.from_residual-in_err-try_two.ensures.1 in
+    let m = c.in_ok-count.ensures in
+    let e = c.in_err-try_two.field-0.0 in
     let is = p.1 ∙ ap Err p.2 in
     record {
-      answer = refusal b _ e is (answer_fields b c.in-ok-count.count m.1 m.0 (Err e) c.in-err-try-two.ensures);
+      answer = refusal b _ e is (answer_fields b c.in_ok-count.count m.1 m.0 (Err e) c.in_err-try_two.ensures);
       layout = nothing _ _ e is;
       fields = nothing _ _ e is;
     }
@@ -37,6 +37,6 @@ returns-in-err-try-two c =
 pub returns : goal.returns
 returns c =
     let b = c.args.body.now in
-    let m = c.in-ok-count.ensures in
-    let only = answer_fields b c.in-ok-count.count m.1 m.0 (Ok tt) c.in-ok-try-two.ensures in
+    let m = c.in_ok-count.ensures in
+    let only = answer_fields b c.in_ok-count.count m.1 m.0 (Ok tt) c.in_ok-try_two.ensures in
     record { answer = only; layout = (refl, m.1); fields = λ k l. field_known b k ((granted_keeps b (Ok tt) only.allows refl).1 k l) }

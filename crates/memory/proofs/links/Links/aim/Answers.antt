@@ -10,5 +10,5 @@ read-requires g c =
     let m = g.C.Cells.cells l.store.now in
     let p = c.args.at in
     let here = asked_is m p c.in-Some.cell c.in-Some.ensures in
-    let within = pointer-within m (g.met.C.Cells.whole l.store.now) p c.requires (ap is_pointer here ∙ sym c.if-is-pointer.ensures) in
+    let within = pointer-within m (g.met.C.Cells.whole l.store.now) p c.requires (ap is_pointer here ∙ sym c.if-is_pointer.ensures) in
     record { within = omega (arith, l.long); few = omega arith }

@@ -3,26 +3,26 @@ use borrow.Author.Tests.{clash}
 use Rattle.routine.specs.Claims.{left_out, bare_path}
 use Rattle.routine.proofs.routine.Routine.judge.Goals as goal
 
-pub returns-then-is-covered-by-a : goal.returns-then-is-covered-by-a
-returns-then-is-covered-by-a c =
-    let a = c.is-covered-by-a.ensures.0 c.if-is-covered-by-a.true in
+pub returns-then-is_covered_by_a : goal.returns-then-is_covered_by_a
+returns-then-is_covered_by_a c =
+    let a = c.is_covered_by_a.ensures.0 c.if-is_covered_by_a.true in
     record { answer = left_out c.args.value c.requires.checked (λ b. b.1 a.0 a.1); size = search rules; named = search rules }
 
-pub returns-then-is-exposed : goal.returns-then-is-exposed
-returns-then-is-exposed c =
+pub returns-then-is_exposed : goal.returns-then-is_exposed
+returns-then-is_exposed c =
     record {
       answer = bare_path c.args.value c.requires.checked (
-        c.is-exposed.ensures.answer.0 c.if-is-exposed.true,
-        λ o e. clash (sym c.if-is-covered-by-a.false ∙ c.is-covered-by-a.ensures.1 (o, e)),
+        c.is_exposed.ensures.answer.0 c.if-is_exposed.true,
+        λ o e. clash (sym c.if-is_covered_by_a.false ∙ c.is_covered_by_a.ensures.1 (o, e)),
       );
       size = search rules;
       named = search rules;
     }
 
-pub returns-else-is-exposed : goal.returns-else-is-exposed
-returns-else-is-exposed c =
+pub returns-else-is_exposed : goal.returns-else-is_exposed
+returns-else-is_exposed c =
     record {
-      answer = left_out c.args.value c.requires.checked (λ b. clash (sym c.if-is-exposed.false ∙ c.is-exposed.ensures.answer.1 b.0));
+      answer = left_out c.args.value c.requires.checked (λ b. clash (sym c.if-is_exposed.false ∙ c.is_exposed.ensures.answer.1 b.0));
       size = search rules;
       named = search rules;
     }

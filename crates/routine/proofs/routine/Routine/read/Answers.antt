@@ -16,38 +16,38 @@ Owed b r = record { answer : Only (Allowed b) (answer_of r); routine : IfOk r (�
 refusal : (b : List ℕ) (r : Result Routine (ℕ × ℕ)) (e : ℕ × ℕ) → r ≡ Err e → Only (Allowed b) (Err e) → Owed b r
 refusal b r e is h = subst (Owed b) (sym is) (record { answer = h; routine = tt })
 
-pub returns-in-err-count : goal.returns-in-err-count
-returns-in-err-count c =
-    let p = err_from_is_err_and c.from-residual.result c.from-residual.ensures.1 in
-    let h = c.in-err-count.ensures in
+pub returns-in_err-count : goal.returns-in_err-count
+returns-in_err-count c =
+    let p = err_from_is_err_and c.from_residual.result c.from_residual.ensures.1 in
+    let h = c.in_err-count.ensures in
     refusal _ _ (2, 0) (p.1 ∙ ap Err (p.2 ∙ h.1)) (answer-length _ h.0)
 
-pub returns-in-err-try-number : goal.returns-in-err-try-number
-returns-in-err-try-number c =
-    let p = err_from_is_err_and c.from-residual-in-err-try-number.result c.from-residual-in-err-try-number.ensures.1 in
-    let m = c.in-ok-count.ensures in
-    refusal _ _ c.in-err-try-number.field-0.0 (p.1 ∙ ap Err p.2) (answer_form _ m.0 _ m.1 _ c.in-err-try-number.ensures)
+pub returns-in_err-try_number : goal.returns-in_err-try_number
+returns-in_err-try_number c =
+    let p = err_from_is_err_and c.from_residual-in_err-try_number.result c.from_residual-in_err-try_number.ensures.1 in
+    let m = c.in_ok-count.ensures in
+    refusal _ _ c.in_err-try_number.field-0.0 (p.1 ∙ ap Err p.2) (answer_form _ m.0 _ m.1 _ c.in_err-try_number.ensures)
 
-pub read-text-text-requires : goal.read-text-text-requires
-read-text-text-requires c =
-    let m = c.in-ok-count.ensures in
-    record { whole = m.0; all = m.1; formed = granted_nowhere 3 _ _ c.in-ok-try-number.ensures.allows }
+pub read_text-text-requires : goal.read_text-text-requires
+read_text-text-requires c =
+    let m = c.in_ok-count.ensures in
+    record { whole = m.0; all = m.1; formed = granted_nowhere 3 _ _ c.in_ok-try_number.ensures.allows }
 
-pub returns-in-err-check : goal.returns-in-err-check
-returns-in-err-check c =
-    let p = err_from_is_err_and c.from-residual-in-err-check.result c.from-residual-in-err-check.ensures.1 in
-    refusal _ _ c.in-err-check.field-0.0 (p.1 ∙ ap Err p.2)
-    (answer_steps c.args.body.now (text_of c.read-text-text.result) c.read-text-text.ensures (Err c.in-err-check.field-0.0) c.in-err-check.ensures)
+pub returns-in_err-check : goal.returns-in_err-check
+returns-in_err-check c =
+    let p = err_from_is_err_and c.from_residual-in_err-check.result c.from_residual-in_err-check.ensures.1 in
+    refusal _ _ c.in_err-check.field-0.0 (p.1 ∙ ap Err p.2)
+    (answer_steps c.args.body.now (text_of c.read_text-text.result) c.read_text-text.ensures (Err c.in_err-check.field-0.0) c.in_err-check.ensures)
 
-pub invariant-of-result : goal.invariant-of-result
+pub invariant_of-result : goal.invariant_of-result
 unfolding text_of
-invariant-of-result c = let r = text_of c.read-text-text.result in (all-inside r (sound r c.in-ok-check.ensures.allows), tt)
+invariant_of-result c = let r = text_of c.read_text-text.result in (all-inside r (sound r c.in_ok-check.ensures.allows), tt)
 
 pub returns : goal.returns
 returns c =
-    let only = c.in-ok-check.ensures in
-    let w = c.read-text-text.ensures in
-    let r = text_of c.read-text-text.result in
+    let only = c.in_ok-check.ensures in
+    let w = c.read_text-text.ensures in
+    let r = text_of c.read_text-text.result in
     let b = c.args.body.now in
     record {
       answer = answer_steps b r w (Ok tt) only;

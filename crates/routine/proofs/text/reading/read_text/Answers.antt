@@ -5,8 +5,8 @@ use Rattle.routine.specs.Body.{part}
 use Rattle.routine.proofs.Texts.{text_written}
 use Rattle.routine.proofs.text.reading.read_text.Goals as goal
 
-pub formed-step-requires : goal.formed-step-requires
-formed-step-requires c = c.requires.formed c.loop-i.i c.loop-i-test.true
+pub formed_step-requires : goal.formed_step-requires
+formed_step-requires c = c.requires.formed c.loop-i.i c.loop-i-test.true
 
 pub loop-i-preserved : goal.loop-i-preserved
 loop-i-preserved c =
@@ -17,7 +17,7 @@ loop-i-preserved c =
       simp length-set c.loop-i.invariant.0,
       below_more _ i
           (λ k l. let apart : k ≢ i = omega arith in subst (Spells (part b k)) (sym (get_or-set_other steps i k _ Stop apart)) (c.loop-i.invariant.1 k l))
-          (subst (Spells (part b i)) (sym (get_or-set_same steps i _ Stop inside)) c.formed-step.ensures),
+          (subst (Spells (part b i)) (sym (get_or-set_same steps i _ Stop inside)) c.formed_step.ensures),
     )
 
 pub returns : goal.returns

@@ -11,7 +11,7 @@ field o f g x y e p q = e ∙ (λ i. operand_of (p i) (q i))
 pub returns : goal.returns
 unfolding fields_at
 returns c =
-    let forms = c.byte-at-forms.ensures in
-    let a = field _ _ _ _ _ c.operand.ensures (ap (λ n. n % 16) forms) c.u32-at.ensures in
-    let b = field _ _ _ _ _ c.operand-2.ensures (ap (λ n. n / 16) forms) c.u32-at-2.ensures in
-    λ i. row (c.byte-at.ensures i) (c.byte-at-2.ensures i) (c.byte-at-3.ensures i) (a i) (b i) (c.u16-at.ensures i) (c.u16-at-2.ensures i)
+    let forms = c.byte_at-forms.ensures in
+    let a = field _ _ _ _ _ c.operand.ensures (ap (λ n. n % 16) forms) c.u32_at.ensures in
+    let b = field _ _ _ _ _ c.operand-2.ensures (ap (λ n. n / 16) forms) c.u32_at-2.ensures in
+    λ i. row (c.byte_at.ensures i) (c.byte_at-2.ensures i) (c.byte_at-3.ensures i) (a i) (b i) (c.u16_at.ensures i) (c.u16_at-2.ensures i)

@@ -4,4 +4,4 @@ use Rattle.steps.proofs.step.Step.encode.Goals as goal
 
 pub returns : goal.returns
 unfolding encoded
-returns c = c.to-bytes.ensures ∙ ap bytes_of c.fields.ensures
+returns c = c.to_bytes.ensures ∙ ap bytes_of c.fields.ensures
