@@ -79,7 +79,7 @@ impl Marks<'_> {
     // Marks exactly the nodes to which a path leads from `from`, whatever the marks held.
     // Refused where there are fewer marks than nodes; then every mark is zero.
     pub fn follow<G: Graph>(&mut self, graph: &G, from: u8) -> Result<(), Refusal>
-        ensures answer { Searched (Walk (Edge (slots graph.now) (leads graph.now)) from) (length self.old.all.now) self.new.all.now result }
+        ensures answer { Searched (Walk (Edge (G.slots graph.now) (G.leads graph.now)) from) (length self.old.all.now) self.new.all.now result }
         ensures size { length self.new.all.now ≡ length self.old.all.now }
         ensures named { self.new.all.ghost_name ≡ self.old.all.ghost_name }
     {
@@ -142,7 +142,7 @@ impl<G: Graph, S: Stops> Graph for Open<'_, '_, G, S> {
 
 // Whether a path leads from `from` to `to`. Refused where there are fewer marks than nodes.
 pub fn reaches<G: Graph>(graph: &G, from: u8, to: u8, marks: &mut [u8]) -> Result<bool, Refusal>
-    ensures answer { Answered (Walk (Edge (slots graph.now) (leads graph.now)) from to) (length marks.old) result }
+    ensures answer { Answered (Walk (Edge (G.slots graph.now) (G.leads graph.now)) from to) (length marks.old) result }
     ensures clear { Clear marks.new }
 {
     let mut guard = Marks::over(marks);
@@ -164,7 +164,7 @@ fn spread<G: Graph>(graph: &G, from: u8, marks: &mut [u8], queue: &mut [u8])
     requires marks { 256 ≤ length marks.old }
     requires queue { 256 ≤ length queue.old }
     requires clear { Clear marks.old }
-    ensures { Reached (Walk (Edge (slots graph.now) (leads graph.now)) from) marks.new }
+    ensures { Reached (Walk (Edge (G.slots graph.now) (G.leads graph.now)) from) marks.new }
 {
     queue[0] = from;
     let mut head = 0;

@@ -30,7 +30,7 @@ loop-slot-preserved g c =
       | in-Some+else-marks-next-eq0 w ↦
           same w.marks-is w.queue-is w.tail-is
           (slot_old f (λ j e z. let eq : j ≡ w.in-Some.next = cc (leads, w.in-Some.is) in w.if-marks-next-eq0.false (subst (λ x. get_or c.loop-slot.marks x 0 ≡ 0) eq z)))
-      | in-default w ↦
+      | in_default w ↦
           same w.marks-is w.queue-is w.tail-is
           (slot_old f (λ j e z. let bad : ◌≡◌ {A = ℕ} 0 1 = cc (leads, w.in_default.is) in omega arith))
     ]
