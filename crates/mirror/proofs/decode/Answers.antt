@@ -10,7 +10,7 @@ overflow_cast-result c =
     let place = c.position-position.ensures.value in
     let size : c.size_from.result ≡ size_from (f (c.args.i - place_in f c.args.i + 1)) =
     c.size_from.ensures ∙ ap size_from (c.nibble-2.ensures.value ∙ ap (λ p. f (c.args.i - p + 1)) place) in
-    let l : c.position-position.result < 256 = omega (arith, c.size_from.type-inv) in
+    let l : c.position-position.result < 256 = omega (arith, c.size_from.type_inv) in
     search rules
 
 pub returns : goal.returns

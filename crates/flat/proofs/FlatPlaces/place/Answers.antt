@@ -7,4 +7,4 @@ use Rattle.flat.proofs.FlatPlaces.place.Goals as goal
 pub invariant_of-self : goal.invariant_of-self
 invariant_of-self c =
     let long : length c.write.new.held ≡ 4096 = omega (arith, c.args.self.now.long, c.write.auto.held) in
-    (long, (subst Whole (sym c.write.ensures) (whole-carried (memory c.args.self.now.held) c.args.self.now.ok c.in_ok-placing.placing), tt))
+    record { long = long; ok = subst Whole (sym c.write.ensures) (whole-carried (memory c.args.self.now.held) c.args.self.now.ok c.in_ok-placing.placing) }

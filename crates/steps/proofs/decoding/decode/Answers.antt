@@ -21,6 +21,6 @@ returns-else-is_formed c =
   where
     wrong : Spells c.args.bytes.now c.in_ok-step.step → ⊥
     wrong h = elim c.else-is_formed.branch [
-      | else-is-formed-via-then-is-formed+else-is-equal w ↦ clash (sym w.if-is_equal.false ∙ w.is_equal.ensures.1 (w.encode.ensures ∙ h.bytes))
-      | else-is-formed-via-else-is-formed w ↦ clash (sym w.if-is_formed.false ∙ c.is_formed.ensures ∙ h.right)
+      | else-is_formed-via-then-is_formed+else-is_equal w ↦ clash (sym w.if-is_equal.false ∙ w.is_equal.ensures.1 (w.encode.ensures ∙ h.bytes))
+      | else-is_formed-via-else-is_formed w ↦ clash (sym w.if-is_formed.false ∙ c.is_formed.ensures ∙ h.right)
     ]

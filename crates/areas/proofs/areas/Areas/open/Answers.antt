@@ -17,7 +17,7 @@ invariant_of-self c =
     let s = c.args.self.now in
     let o = opening-ordered (opened s) c.args.start c.args.size c.in_ok-check_open.ensures s.apart in
     let h = opening_room s.list s.count c.args.start c.args.size s.long s.room c.in_ok-check_open.ensures in
-    (search rules, (omega arith, (subst (λ l. ordered l ≡ true) (sym c.insert.ensures) o, tt)))
+    record { long = search rules; room = omega arith; apart = subst (λ l. ordered l ≡ true) (sym c.insert.ensures) o }
 
 pub returns : goal.returns
 returns c =

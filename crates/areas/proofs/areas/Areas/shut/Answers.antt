@@ -7,13 +7,12 @@ use Rattle.areas.proofs.areas.Areas.shut.Goals as goal
 
 pub invariant_of-self : goal.invariant_of-self
 invariant_of-self c =
-    let s = c.args.self.now in (
-      search rules,
-      (
-        omega (arith, s.room, c.remove-self.ensures.fewer),
-        (subst (λ l. ordered l ≡ true) (sym c.remove-self.ensures.rest) (kept-ordered (λ x. not (begins c.args.start x)) (opened s) s.apart), tt),
-      ),
-    )
+    let s = c.args.self.now in
+    record {
+      long = search rules;
+      room = omega (arith, s.room, c.remove-self.ensures.fewer);
+      apart = subst (λ l. ordered l ≡ true) (sym c.remove-self.ensures.rest) (kept-ordered (λ x. not (begins c.args.start x)) (opened s) s.apart);
+    }
 
 pub returns-in-Some : goal.returns-in-Some
 returns-in-Some c =
