@@ -7,7 +7,7 @@ use Rattle.memory.proofs.Reaching.{state_is, always_tied}
 use Rattle.memory.proofs.Memory.new.Goals as goal
 
 pub invariant_of-result : goal.invariant_of-result
-invariant_of-result g c = (length-replicate {A = ℕ} 4096 c.unwritten.result, tt)
+invariant_of-result g c = record { long = length-replicate {A = ℕ} 4096 c.unwritten.result }
 
 pub returns : goal.returns
 returns g c =

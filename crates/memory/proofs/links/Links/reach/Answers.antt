@@ -23,7 +23,7 @@ returns-in-Some g c =
     let s = linked g.C.Cells.cells l in
     let long = ap length c.over-marks.ensures.same in
     let h = c.in_ok-check_len.ensures in
-    let f = c.in_ok-follow.ensures.answer.1 in
+    let f = c.in_ok-follow-in-Some.ensures.answer.1 in
     let shown = bits_reach s (g.met.C.Cells.whole l.store.now) l.areas.now.apart c.args.start c.in-Some.from c.count.result c.bits.result _
     c.in-Some.ensures c.count.ensures f c.bits.ensures in
     record { answer = reached c.in-Some.from c.bits.result (omega arith) (sym c.in-Some.ensures) shown; clear = search rules }

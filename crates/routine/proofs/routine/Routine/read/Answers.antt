@@ -41,7 +41,7 @@ returns-in_err-check c =
 
 pub invariant_of-result : goal.invariant_of-result
 unfolding text_of
-invariant_of-result c = let r = text_of c.read_text-text.result in (all-inside r (sound r c.in_ok-check.ensures.allows), tt)
+invariant_of-result c = let r = text_of c.read_text-text.result in record { inside = all-inside r (sound r c.in_ok-check.ensures.allows) }
 
 pub returns : goal.returns
 returns c =
