@@ -169,7 +169,7 @@ mod tests {
         let file = [1, b'R', 6, 0, 1, 0, 77];
         let map = MapFile::read(&file)?;
         assert!(rt; map.claims().is_none());
-        assert_eq!(rt; map.routine(), &[77]);
+        assert_eq!(rt; map.routine(), [77].as_slice());
         Ok(())
     }
 

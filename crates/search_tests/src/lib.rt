@@ -18,7 +18,7 @@ pub struct Pair {
 
 // Answers each pair, with one search a pair under one guard.
 pub fn link<G: Graph>(graph: &G, pairs: &mut [Pair], marks: &mut [u8]) -> Result<(), Refusal>
-    ensures answer { AllLinked (Edge (slots graph.now) (leads graph.now)) (length marks.old) pairs.old pairs.new result }
+    ensures answer { AllLinked (Edge (G.slots graph.now) (G.leads graph.now)) (length marks.old) pairs.old pairs.new result }
     ensures clear { Clear marks.new }
 {
     let mut guard = Marks::over(marks);
@@ -37,7 +37,7 @@ pub fn reach<G: Graph>(
     near: &mut [bool; 32],
     marks: &mut [u8],
 ) -> Result<(), Refusal>
-    ensures answer { AllNear (Edge (slots graph.now) (leads graph.now)) from (length marks.old) near.old near.new result }
+    ensures answer { AllNear (Edge (G.slots graph.now) (G.leads graph.now)) from (length marks.old) near.old near.new result }
     ensures clear { Clear marks.new }
 {
     let mut guard = Marks::over(marks);
