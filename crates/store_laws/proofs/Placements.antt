@@ -5,7 +5,7 @@ use Rattle.std.proofs.lemmas.Bool.{cases_lt, cases_Bool, cases_eq, and_from, and
 use Rattle.store.specs.declared.tags.Kind.{Kind}
 use Rattle.store.specs.declared.tags.Kind.TheVariants.{Unallocated, Uninitialized, Zero, Integral, Real, Pointer, Torn}
 use Rattle.store.specs.declared.tags.Cell.{Cell}
-use Rattle.store.specs.Cells.{Memory, Whole, cell_of, torn, kind_of, number_of, sized, single, fitting, fresh, among, touched, placed, refused}
+use Rattle.store.specs.Cells.{Memory, Whole, cell_of, torn, kind_of, number_of, sized, single, fitting, fresh, among, touched, placed, put, refused, reply}
 use Rattle.store.specs.Objects.{Among, Object, Together}
 use Rattle.store.specs.Reading.{same, all_of, kind_read, read_answer}
 use Rattle.store.proofs.Numbers.{single-size, inside_of}
@@ -207,3 +207,12 @@ reading m a k n w h =
       cut = λ s z l i j o hi gi hj gj. read_cut m a (kind_of k) n s l z i j o hi gi hj gj;
       same = λ s z some kept. read_same (placed m a (kind_of k) n) m s z some kept;
     }
+
+-- what is read from a store once a placing was granted
+pub read_after : (m after : Memory) (a k n : ℕ) (r : Kind) → Whole m → Ok tt ≡ reply a k n → after ≡ put m a k n → Some r ≡ read_answer after a n
+    → ◌≡◌ {A = Result Kind (ℕ × ℕ)} (Ok r) (cond (refused a k n) (Err (15, 0)) (Ok (read_back (kind_of k) n)))
+read_after m after a k n r w e left read =
+    let fine : refused a k n ≡ false = not-refused (refused a k n) e in
+    let law = reading m a k n w fine in
+    let same : after ≡ placed m a (kind_of k) n = left ∙ rw fine refl in
+    rw fine (ap Ok (read_is after a n r read ∙ ap (λ x. kind_read x a n) same ∙ law.back))
