@@ -1,11 +1,10 @@
 -- Carrying an area up to its place is inserting it. Assumes nothing.
-use Rattle.std.proofs.Common.{◌≡◌, ℕ, ◌+◌, ◌<◌, ◌≤◌, Bool, true, false, cond, ◌&&◌, ltb, leb, List, [], ◌∷◌, ◌++◌, length, get_or, take, drop, set, sym, refl, ap, ◌∙◌, subst, append_assoc, arith}
-use Rattle.std.proofs.lemmas.Bool.Decides.{nat_tests}
-use Rattle.std.proofs.lemmas.Bool.{and_parts, cases_Bool, cond_both, lt-ltb, leb-true}
+use Rattle.std.proofs.Common.{◌≡◌, ℕ, ◌+◌, ◌<◌, Bool, true, false, cond, ltb, leb, List, [], ◌∷◌, ◌++◌, length, get_or, take, drop, set, sym, refl, ap, ◌∙◌, append_assoc, arith}
+use Rattle.std.proofs.lemmas.Bool.{and_parts, lt-ltb, leb-true}
 use Rattle.std.proofs.lemmas.List.{take_more_set, drop_more, get_or-take, get_or-drop, drop-drop, drop-set-lt, length-take-le, drop_all}
 use Rattle.areas.specs.declared.area.Area.{Area}
 use Rattle.areas.specs.Ordered.{above, ordered, inserted}
-use Rattle.areas.proofs.Order.{Headed, headed}
+use Rattle.areas.proofs.Order.{headed}
 
 -- of two areas the one that begins lower, and the other
 abbrev pub lower : Area → Area → Area

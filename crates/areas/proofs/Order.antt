@@ -1,12 +1,12 @@
 -- Areas stay in order and apart. Assumes nothing.
-use Rattle.std.proofs.Common.{◌≡◌, ℕ, zero, suc, ◌+◌, ◌<◌, ◌≤◌, Bool, true, false, cond, not, ◌&&◌, ◌||◌, eqb, ltb, leb, ◌⊎◌, List, [], ◌∷◌, length, take, Some, None, Ok, Err, filter, sym, refl, ap, ◌∙◌, subst, inl, inr, ⊎_elim, arith}
+use Rattle.std.proofs.Common.{◌≡◌, ℕ, zero, suc, ◌+◌, ◌<◌, ◌≤◌, Bool, true, false, cond, ◌&&◌, ◌||◌, eqb, ltb, leb, ◌⊎◌, List, [], ◌∷◌, length, take, Some, Ok, Err, filter, sym, refl, ◌∙◌, subst, inl, inr, ⊎_elim, arith}
 use Rattle.std.specs.List.{slice_get}
 use Rattle.std.proofs.lemmas.Bool.Decides.{nat_tests}
 use Rattle.std.proofs.lemmas.Bool.{and_parts, and_from, or_parts, or_cases, cases_Bool, leb-true, le-leb, eqb-true, eqb-false, cases_lt, cond_both}
 use Rattle.std.proofs.lemmas.List.{length-take-le}
 use Rattle.areas.specs.declared.area.Area.{Area}
 use Rattle.areas.specs.Area.{area_of, crosses, holds, begins, any, lawful}
-use Rattle.areas.specs.Ordered.{fits, above, ordered, inserted, without, found, In, InOrder, Added}
+use Rattle.areas.specs.Ordered.{fits, above, ordered, inserted, found, In, InOrder, Added}
 use Rattle.areas.specs.Calls.{Answer, Within, open_answer}
 
 -- what an ordered row tells of its first area and of the rest

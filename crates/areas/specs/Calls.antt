@@ -1,5 +1,5 @@
 -- What the calls on areas answer and leave.
-use Rattle.std.specs.Prelude.{◌≡◌, ℕ, ◌+◌, ◌<◌, ◌≤◌, cond, ◌||◌, List, length, take, Some, None, Ok, Err, Option, Result, ◌==◌, nat_lt}
+use Rattle.std.specs.Prelude.{ℕ, ◌+◌, ◌<◌, ◌≤◌, cond, ◌||◌, List, length, take, Some, None, Ok, Err, Option, Result, ◌==◌, nat_lt}
 use Rattle.areas.specs.declared.area.Area.{Area}
 use Rattle.areas.specs.declared.areas.Areas.{Areas}
 use Rattle.areas.specs.Area.{crosses, any}

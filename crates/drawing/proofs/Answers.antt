@@ -1,5 +1,5 @@
 -- A body has one answer that the rules of drawing allow. Assumes nothing.
-use Rattle.std.proofs.Common.{◌≡◌, ℕ, ◌⊎◌, List, Ok, Err, sym, refl, subst, inl, inr, arith}
+use Rattle.std.proofs.Common.{◌≡◌, ℕ, List, Ok, Err, sym, refl, subst, inl, inr, arith}
 use Rattle.first.specs.First.{Answer, Only, Numbered, Granted, Nowhere}
 use Rattle.first.proofs.Firsts.{only_like}
 use Rattle.layout.specs.Fields.{count_of}

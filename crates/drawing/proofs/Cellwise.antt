@@ -1,9 +1,9 @@
 -- Fields that are placed in a new memory show as they are, and all else is unallocated. Assumes nothing.
-use Rattle.std.proofs.Common.{◌≡◌, ℕ, ◌+◌, ◌<◌, ◌≤◌, List, IfSome, Some, None, Option, sym, refl, subst, ⊎_elim, arith, MatchOption}
+use Rattle.std.proofs.Common.{◌≡◌, ℕ, ◌+◌, ◌<◌, ◌≤◌, List, IfSome, Some, None, Option, subst, ⊎_elim, arith, MatchOption}
 use Rattle.std.proofs.lemmas.Bool.{cases_lt}
 use Rattle.first.specs.First.{Nowhere}
 use Rattle.store.specs.declared.tags.Cell.{Cell}
-use Rattle.store.specs.Cells.{Memory, empty}
+use Rattle.store.specs.Cells.{empty}
 use Rattle.layout.specs.declared.field.Field.{Field}
 use Rattle.layout.specs.Fields.{field_at, count_of}
 use Rattle.layout.specs.Placing.{Inside, Has, Left, own, cut, kept}

@@ -1,5 +1,5 @@
 -- The nibble of an address is the half of a byte of the mirror. Assumes nothing.
-use Rattle.std.proofs.Common.{◌≡◌, ℕ, ◌+◌, ◌*◌, ◌/◌, ◌%◌, ◌<◌, ◌≤◌, Bool, true, false, cond, ltb, Some, None, sym, refl, ap, ◌∙◌, subst, arith}
+use Rattle.std.proofs.Common.{◌≡◌, ℕ, ◌+◌, ◌*◌, ◌/◌, ◌%◌, ◌<◌, Bool, true, false, cond, ltb, Some, None, ap, ◌∙◌, arith}
 use Rattle.store.specs.Cells.{Memory, Whole}
 use Rattle.mirror.specs.Nibbles.{nibble_of, mirrored, byte_answer}
 use Rattle.mirror.proofs.Decoding.{nibble_small}

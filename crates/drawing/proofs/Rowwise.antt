@@ -1,14 +1,14 @@
 -- The cell of a row is the one that its field gives. Assumes nothing.
-use Rattle.std.proofs.Common.{◌≡◌, ℕ, ◌-◌, ◌<◌, ◌≤◌, Bool, true, cond, ltb, ◌⊎◌, List, Some, None, Option, sym, refl, ap, ◌∙◌, subst, inl, inr, ⊎_elim, arith, MatchOption}
+use Rattle.std.proofs.Common.{◌≡◌, ℕ, ◌-◌, ◌<◌, List, Some, None, Option, sym, refl, ap, ◌∙◌, subst, ⊎_elim, arith, MatchOption}
 use Rattle.std.proofs.lemmas.Bool.{lt-ltb, cases_lt}
-use Rattle.first.specs.First.{First, FirstAt, Nowhere}
+use Rattle.first.specs.First.{First, Nowhere}
 use Rattle.store.specs.declared.tags.Cell.{Cell}
 use Rattle.store.specs.Cells.{cell_of}
 use Rattle.layout.specs.declared.field.Field.{Field}
 use Rattle.layout.specs.declared.layout.Layout.{Layout}
 use Rattle.layout.specs.Fields.{field_at, count_of, Owns, Reads}
 use Rattle.layout.specs.Placing.{Has}
-use Rattle.layout.specs.Rules.{Common, Shared}
+use Rattle.layout.specs.Rules.{Shared}
 use Rattle.drawing.specs.Drawn.{Shown, own, gap, field_in, HasIn, CellByField}
 
 -- a field of the layout is one of the body

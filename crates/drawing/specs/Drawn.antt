@@ -1,5 +1,5 @@
 -- What is drawn of a packed record, alone in a new memory of which all bytes may be used.
-use Rattle.std.specs.Prelude.{◌≡◌, ℕ, zero, suc, ◌+◌, ◌-◌, ◌%◌, ◌<◌, ◌≤◌, min, max, Bool, cond, ◌⊎◌, List, Some, None, Ok, Err, Option, MatchOption, ◌==◌, nat_lt}
+use Rattle.std.specs.Prelude.{◌≡◌, ℕ, zero, suc, ◌+◌, ◌-◌, ◌%◌, ◌<◌, ◌≤◌, min, max, cond, ◌⊎◌, List, Some, None, Ok, Err, Option, MatchOption, ◌==◌, nat_lt}
 use Rattle.std.specs.Option.{option_map}
 use Rattle.store.specs.declared.tags.Cell.{Cell}
 use Rattle.store.specs.Cells.{Memory, cell_of, unallocated}

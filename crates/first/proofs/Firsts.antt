@@ -1,6 +1,6 @@
 -- The first bad place is one, and rules tried in order have one answer.
 -- Decisions of `not`, `&&`, `||`, `<`, `≡` and of what means the same (`Decides-like`) are in `Rattle.std.proofs.lemmas.Bool.Decides`.
-use Rattle.std.proofs.Common.{◌≡◌, ℕ, zero, suc, ◌<◌, ◌≤◌, Bool, true, false, not, leb, ◌⊎◌, Ok, Err, Decides, sym, refl, ap, ◌∙◌, subst, inl, inr, ⊎_elim, arith}
+use Rattle.std.proofs.Common.{◌≡◌, ℕ, zero, suc, ◌≤◌, Bool, true, false, not, leb, ◌⊎◌, Ok, Decides, sym, refl, ap, ◌∙◌, subst, inl, inr, ⊎_elim, arith}
 use Rattle.std.proofs.lemmas.Bool.Decides.{nat_tests}
 use Rattle.std.proofs.lemmas.Bool.{cases_eq, cases_lt}
 use Rattle.first.specs.First.{Nowhere, Somewhere, FirstAt, Tried, IfBroken, One, Only, Granted, Numbered}

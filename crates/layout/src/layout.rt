@@ -17,7 +17,7 @@ use store::scalars::Scalar;
 use store::tags::Refusal;
 
 // A body that `read` has granted: a base address of 2 bytes, and then `count` fields of 7.
-// What `read` showed of it is in the contracts and not in the type, since no `Result` can hold a reference beside a ghost field.
+// What `read` showed of it is in the contracts and not in the type: the methods answer for any bytes.
 #[derive(Clone, Copy)]
 pub struct Layout<'a> {
     body: &'a [u8],

@@ -6,7 +6,7 @@ use Rattle.first.specs.First.{Somewhere, FirstAt, One, Only, Answer}
 use Rattle.first.proofs.Firsts.{tried_one, if_broken_one, exactly_one, only, only_like, somewhere_or}
 use Rattle.mapfile.specs.Files.{entry_count, letter_at, offset_at, length_at, body_at, end_at, header_length, header, due_at, bodies}
 use Rattle.mapfile.specs.Sections.{Single, TheBody}
-use Rattle.mapfile.specs.Rules.{routine_letter, claims_letter, Under, Unreadable, Second, BadEntry, Incomplete, Accepted, Allowed, InOrder, unreadable, bad_entry, incomplete, accepted, Cut, Sole, Holds, Parted}
+use Rattle.mapfile.specs.Rules.{routine_letter, claims_letter, Under, Unreadable, Second, BadEntry, Accepted, Allowed, InOrder, unreadable, bad_entry, incomplete, accepted, Cut, Sole, Holds, Parted}
 
 module _ (file : List ℕ) where
   abbrev n : ℕ

@@ -50,8 +50,7 @@ fn accept(file: &[u8]) -> Result<(), Refusal>
     Ok(())
 }
 
-// A file that was read. Only `read` makes one, and its contract says what the methods may rely on: the checker covers no enum of a struct with a reference
-// and a ghost field, as the result of `read` would be.
+// A file that was read. Only `read` makes one, and its contract says what was shown: the methods answer for any bytes, and say more where the rules hold.
 #[derive(Clone, Copy)]
 pub struct MapFile<'a> {
     file: &'a [u8],

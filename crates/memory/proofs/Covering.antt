@@ -1,11 +1,11 @@
 -- A row of one-byte placings is one placing over the row. Assumes nothing.
-use Rattle.std.proofs.Common.{◌≡◌, ℕ, zero, suc, ◌+◌, ◌-◌, ◌<◌, ◌≤◌, Bool, true, false, cond, ◌&&◌, ◌||◌, sym, refl, ap, ◌∙◌, subst, arith}
+use Rattle.std.proofs.Common.{◌≡◌, ℕ, zero, suc, ◌+◌, ◌<◌, ◌≤◌, true, false, cond, sym, refl, ap, ◌∙◌, arith}
 use mathlib.Core.Path.{fun_ext}
 use Rattle.std.proofs.lemmas.Bool.Decides.{nat_tests}
 use Rattle.store.specs.declared.tags.Kind.{Kind}
 use Rattle.store.specs.declared.tags.Kind.TheVariants.{Unallocated, Uninitialized, Zero, Integral, Real, Pointer, Torn}
 use Rattle.store.specs.declared.tags.Cell.{Cell}
-use Rattle.store.specs.Cells.{Memory as Cells, Whole, cell_of, torn, kind_of, number_of, single, fresh, among, touched, placed, put, refused}
+use Rattle.store.specs.Cells.{Memory as Cells, Whole, cell_of, torn, kind_of, number_of, single, among, touched, placed, put, refused}
 use Rattle.store.proofs.Numbers.{kind_number, inside_of}
 
 -- n bytes from a, one after the other

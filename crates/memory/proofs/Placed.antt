@@ -1,8 +1,7 @@
 -- The answers to an import, and what a granted one leaves. Assumes nothing.
-use Rattle.std.proofs.Common.{◌≡◌, ℕ, zero, suc, ◌+◌, ◌-◌, ◌<◌, ◌≤◌, Bool, true, false, cond, ◌⊎◌, List, IfSome, Some, None, Ok, Err, Option, sym, refl, ap, ◌∙◌, subst, inl, inr, ⊎_elim, arith, MatchOption}
-use Rattle.std.proofs.lemmas.Bool.{cases_Bool, cases_eq, cases_lt}
+use Rattle.std.proofs.Common.{◌≡◌, ℕ, zero, suc, ◌+◌, ◌-◌, ◌<◌, ◌≤◌, true, false, List, IfSome, Some, None, Ok, Err, Option, sym, refl, ap, ◌∙◌, subst, inl, inr, ⊎_elim, arith, MatchOption}
+use Rattle.std.proofs.lemmas.Bool.{cases_Bool, cases_eq}
 use Rattle.std.proofs.lemmas.Bool.Decides.{nat_tests}
-use Rattle.std.proofs.lemmas.Option.{MatchOption-at_some}
 use Rattle.store.specs.declared.tags.Cell.{Cell}
 use Rattle.store.specs.Cells.{Memory as Cells, among, cell_of, torn}
 use Rattle.store.specs.Objects.{Among}
@@ -18,7 +17,7 @@ use Rattle.layout.specs.Rules.{Common, Shared}
 use Rattle.layout.specs.Rules.{Allowed as Granted-body}
 use Rattle.layout.specs.Placing.{Has, Inside}
 use Rattle.layout.specs.Placing as placing
-use Rattle.memory.specs.Bytes.{Bytes, written}
+use Rattle.memory.specs.Bytes.{Bytes}
 use Rattle.memory.specs.Import.{Allowed, Left, Unhoused, cut, granted, kept, laid_bytes, no_area, own, write_field, wrong_body}
 
 module _ (xs : List Area) (b : List ℕ) where

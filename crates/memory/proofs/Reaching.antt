@@ -1,9 +1,9 @@
 -- Every memory that calls can make is tied. Assumes nothing.
-use Rattle.std.proofs.Common.{◌≡◌, ℕ, zero, suc, ◌-◌, ◌<◌, Bool, true, false, cond, not, ◌&&◌, ◌⊎◌, List, Some, None, Ok, Err, Option, sym, refl, ap, ◌∙◌, subst, inl, inr, ⊎_elim, arith, MatchOption}
+use Rattle.std.proofs.Common.{◌≡◌, ℕ, zero, suc, ◌-◌, Bool, true, false, cond, not, List, Some, None, Ok, Err, Option, sym, refl, ap, ◌∙◌, subst, ⊎_elim, arith, MatchOption}
 use Rattle.std.proofs.lemmas.Bool.{and_parts, and_from, cases_Bool, cond_both}
 use Rattle.store.specs.declared.tags.Kind.{Kind}
 use Rattle.store.specs.declared.tags.Kind.TheVariants.{Unallocated, Uninitialized}
-use Rattle.store.specs.Cells.{Memory as Cells, cell_of, kind_of, number_of, single, sized, sound, fresh, among, touched, torn, placed, put, refused}
+use Rattle.store.specs.Cells.{Memory as Cells, kind_of, number_of, single, sized, sound, fresh, among, touched, torn, placed, put, refused}
 use Rattle.store.proofs.Numbers.{single-size}
 use Rattle.store.proofs.Placings.{granted as placing-granted, sound-placed}
 use Rattle.first.specs.First.{Answer, Nowhere}
@@ -15,11 +15,11 @@ use Rattle.areas.proofs.Order.{found_within, kept-ordered, opening-ordered}
 use Rattle.layout.specs.declared.field.Field.{Field}
 use Rattle.layout.specs.Fields.{count_of, field_at}
 use Rattle.layout.specs.Placing.{laid_cells, put_field}
-use Rattle.layout.proofs.Types.{WholeTyped, field-typed}
+use Rattle.layout.proofs.Types.{field-typed}
 use Rattle.memory.specs.Bytes.{written}
-use Rattle.memory.specs.State.{State, state_of, blank}
-use Rattle.memory.specs.Rules.{accessible, after_open, after_shut, after_write, is_access, opens, shut_found, shuts, writes}
-use Rattle.memory.specs.Import.{Allowed, Unhoused, after_import, granted, imports, laid_bytes, no_area, write_field, wrong_body}
+use Rattle.memory.specs.State.{State, state_of}
+use Rattle.memory.specs.Rules.{accessible, after_write, is_access, opens, shut_found, shuts, writes}
+use Rattle.memory.specs.Import.{Allowed, Unhoused, after_import, granted, laid_bytes, no_area, write_field, wrong_body}
 use Rattle.memory.specs.Tied.{AlwaysTied, Reached, ShutAlone, Tied, UnchangedOutside, importing, made, opening, shutting, writing}
 use Rattle.memory.proofs.Tying.{others_shut, tied_new, tied_opened, tied_put, tied_shut, tied_written}
 

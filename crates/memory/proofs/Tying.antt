@@ -1,17 +1,17 @@
 -- Calls keep bytes, cells and areas in agreement. Assumes nothing.
-use Rattle.std.proofs.Common.{◌≡◌, ℕ, zero, suc, ◌+◌, ◌-◌, ◌<◌, ◌≤◌, Bool, true, false, cond, not, ◌&&◌, ◌||◌, eqb, ltb, leb, ◌⊎◌, List, [], ◌∷◌, Some, None, sym, refl, ap, ◌∙◌, subst, inl, inr, ⊎_elim, arith}
+use Rattle.std.proofs.Common.{◌≡◌, ℕ, ◌+◌, ◌-◌, ◌<◌, ◌≤◌, Bool, true, false, cond, not, ◌||◌, ltb, leb, List, [], ◌∷◌, Some, sym, refl, ap, ◌∙◌, subst, ⊎_elim, arith}
 use Rattle.std.proofs.lemmas.Bool.Decides.{nat_tests}
 use Rattle.std.proofs.lemmas.Bool.{cases_Bool, and_parts, or_parts, or_cases, or_from, or_left, or_right, leb-true, eqb-true, both_ways, cond_both, false≢true}
 use Rattle.store.specs.declared.tags.Kind.{Kind}
 use Rattle.store.specs.declared.tags.Kind.TheVariants.{Unallocated, Uninitialized, Torn}
 use Rattle.store.specs.declared.tags.Cell.{Cell}
-use Rattle.store.specs.Cells.{Memory as Cells, cell_of, unallocated, torn, kind_of, number_of, single, sound, fresh, among, touched, placed, put, refused, empty}
+use Rattle.store.specs.Cells.{Memory as Cells, cell_of, unallocated, torn, kind_of, number_of, single, sound, fresh, among, touched, placed, put, refused}
 use Rattle.store.proofs.Numbers.{inside_of, kind_number}
 use Rattle.areas.specs.declared.area.Area.{Area}
 use Rattle.areas.specs.Area.{area_of, any, crosses, holds, begins, lawful}
 use Rattle.areas.specs.Ordered.{above, found, inserted, ordered, without}
-use Rattle.areas.proofs.Order.{Headed, headed}
-use Rattle.memory.specs.Bytes.{Bytes, written, cleared, zeros}
+use Rattle.areas.proofs.Order.{headed}
+use Rattle.memory.specs.Bytes.{written}
 use Rattle.memory.specs.State.{State, state_of, blank}
 use Rattle.memory.specs.Rules.{opens, shuts}
 use Rattle.memory.specs.Tied.{Tied, UnchangedOutside, houses, inside}

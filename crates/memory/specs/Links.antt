@@ -1,5 +1,5 @@
 -- Which areas lead to which.
-use Rattle.std.specs.Prelude.{◌≡◌, ℕ, ◌+◌, ◌/◌, ◌%◌, ◌^◌, ◌<◌, ◌≤◌, Bool, cond, ◌&&◌, ◌⊎◌, List, Some, None, Ok, Err, Decides, Option, Result, ◌==◌, nat_lt}
+use Rattle.std.specs.Prelude.{◌≡◌, ℕ, ◌+◌, ◌/◌, ◌%◌, ◌^◌, ◌<◌, ◌≤◌, Bool, cond, ◌&&◌, ◌⊎◌, Some, None, Ok, Err, Decides, Option, Result, ◌==◌, nat_lt}
 use Rattle.std.specs.List.{slice_get}
 use Rattle.store.specs.declared.tags.Kind.TheVariants.{Pointer}
 use Rattle.store.specs.declared.tags.Cell.{Cell}

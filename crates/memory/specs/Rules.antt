@@ -1,8 +1,8 @@
 -- What the calls of a memory answer and leave.
-use Rattle.std.specs.Prelude.{◌≡◌, ℕ, ◌+◌, ◌≤◌, Bool, false, cond, ◌&&◌, List, Some, None, Ok, Err, Option, nat_le}
+use Rattle.std.specs.Prelude.{ℕ, Bool, cond, ◌&&◌, List, Some, None, Ok, Err, Option, nat_le}
 use Rattle.store.specs.declared.tags.Kind.{Kind}
 use Rattle.store.specs.declared.tags.Kind.TheVariants.{Unallocated, Uninitialized}
-use Rattle.store.specs.Cells.{Memory as Cells, number_of, placed, put}
+use Rattle.store.specs.Cells.{number_of, placed, put}
 use Rattle.store.specs.Reading.{kind_read}
 use Rattle.areas.specs.declared.area.Area.{Area}
 use Rattle.areas.specs.Area.{area_of, lawful}

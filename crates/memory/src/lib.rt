@@ -12,7 +12,7 @@ pub mod links;
 mod questions;
 
 // A memory over a store. What ties its tags to its areas is a law about every memory that calls can make,
-// since the type knows nothing of what its store means.
+// and no fact of the type.
 #[derive(Drop)]
 pub struct Memory<S> {
     bytes: [u8; 4096],

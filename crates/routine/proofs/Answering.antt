@@ -1,15 +1,14 @@
 -- A body has one answer that the rules allow, and one list of steps. Assumes nothing.
-use Rattle.std.proofs.Common.{◌≡◌, ℕ, suc, ◌+◌, ◌*◌, ◌<◌, ◌⊎◌, List, [], ◌∷◌, ◌++◌, length, get_or, take, drop, Ok, Err, sym, refl, ap, ◌∙◌, subst, inl, inr, ⊎_elim, arith, length-drop, take-append-drop}
+use Rattle.std.proofs.Common.{◌≡◌, ℕ, suc, ◌+◌, ◌*◌, ◌<◌, List, [], ◌∷◌, ◌++◌, length, take, drop, Err, sym, refl, ap, ◌∙◌, subst, inl, inr, arith, length-drop, take-append-drop}
 use Rattle.std.proofs.lemmas.List.{same_lists, get_or_default, drop-drop}
 use Rattle.first.specs.First.{Nowhere, FirstAt, Only, Answer, Granted, Numbered}
-use Rattle.first.proofs.Firsts.{first_one, only_like, granted_nowhere}
-use Rattle.steps.specs.declared.step.Step.{Step}
+use Rattle.first.proofs.Firsts.{first_one, only_like}
 use Rattle.steps.specs.declared.step.Step.TheVariants.{Stop}
-use Rattle.steps.specs.Format.{encoded, Spells}
+use Rattle.steps.specs.Format.{encoded}
 use Rattle.steps.proofs.Spelling.{spelled_one}
 use Rattle.routine.specs.Flow.{Steps, step_at}
 use Rattle.routine.specs.Body.{count_of, Measured, part, Written, written}
-use Rattle.routine.specs.Rules.{Malformed, SetTwice, UnfitOperand, Astray, UnsetOperand, Allowed, InOrder, wrong_length, malformed, set_twice, unfit, astray, unset, accepted}
+use Rattle.routine.specs.Rules.{Malformed, Allowed, InOrder, wrong_length, malformed, set_twice, unfit, astray, unset, accepted}
 
 -- THE STEPS OF A BODY
 

@@ -1,9 +1,8 @@
 -- One verdict is right. Assumes nothing.
-use Rattle.std.proofs.Common.{◌≡◌, ℕ, ◌≤◌, Bool, true, false, cond, eqb, ◌⊎◌, length, Some, None, Decides, Option, sym, refl, ap, ◌∙◌, subst, inl, inr, ⊎_elim, arith}
+use Rattle.std.proofs.Common.{◌≡◌, ℕ, ◌≤◌, Bool, true, false, cond, eqb, length, Some, None, Decides, Option, refl, ap, ◌∙◌, subst, arith}
 use Rattle.first.specs.First.{Only, One}
 use Rattle.first.proofs.Firsts.{only}
 use Rattle.routine.specs.declared.verdict.Verdict.{Verdict}
-use Rattle.routine.specs.declared.verdict.Verdict.TheVariants.{LeftOut, NoCheck, BarePath}
 use Rattle.steps.specs.Tables.{checks}
 use Rattle.routine.specs.Flow.{Steps}
 use Rattle.routine.proofs.Texts.{step_past}

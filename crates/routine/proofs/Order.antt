@@ -1,6 +1,5 @@
 -- A number tried before others. Assumes nothing.
-use Rattle.std.proofs.Common.{◌≡◌, ℕ, IsErrAnd, Ok, Err, Result, sym, ap, ◌∙◌, subst, inl, inr, arith}
-use Rattle.std.proofs.lemmas.Result.{err_from_is_err_and}
+use Rattle.std.proofs.Common.{◌≡◌, ℕ, Ok, Err, inl, inr, arith}
 use Rattle.first.specs.First.{Nowhere, Only, Answer, Granted, Numbered}
 use Rattle.first.proofs.Firsts.{granted_nowhere}
 

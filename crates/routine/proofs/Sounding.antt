@@ -1,19 +1,17 @@
 -- What accepted steps have. Assumes nothing.
-use Rattle.std.proofs.Common.{◌≡◌, ℕ, ◌+◌, ◌<◌, ◌≤◌, Bool, true, false, cond, ◌&&◌, eqb, ◌⊎◌, length, IsSomeAnd, Some, None, Ok, Option, sym, refl, ap, ◌∙◌, subst, inl, inr, ⊎_elim, arith}
+use Rattle.std.proofs.Common.{◌≡◌, ℕ, ◌+◌, ◌<◌, ◌≤◌, Bool, true, false, cond, ◌&&◌, ◌⊎◌, length, IsSomeAnd, Some, None, Ok, Option, sym, refl, ap, ◌∙◌, subst, inl, inr, ⊎_elim, arith}
 use borrow.Author.Tests.{clash}
 use Rattle.std.proofs.lemmas.Bool.{cases_Bool, cases_eq, cases_lt, lt-ltb}
 use Rattle.store.specs.declared.scalars.Scalar.{Scalar}
 use Rattle.search.specs.Paths.{Walk, step, onward, Between}
 use Rattle.first.specs.First.{Nowhere, Somewhere}
 use Rattle.first.proofs.Firsts.{somewhere_or}
-use Rattle.steps.specs.declared.step.Step.{Step}
-use Rattle.steps.specs.declared.step.Step.TheVariants.{Stop}
 use Rattle.steps.specs.declared.step.Takes.{Takes}
 use Rattle.steps.specs.Types.{accepts}
 use Rattle.steps.specs.Tables.{sets, uses, targets, terminator, nexts}
-use Rattle.routine.specs.Flow.{Steps, step_at, Either, Sets, Path, Before}
+use Rattle.routine.specs.Flow.{Steps, step_at, Either, Sets, Before}
 use Rattle.routine.specs.Graph.{is_set, under, nexts_inside}
-use Rattle.routine.specs.Rules.{SetTwice, SetsOther, Unfit, UnfitOperand, Astray, Unset, UnsetOperand, InOrder, Covered, Sound}
+use Rattle.routine.specs.Rules.{SetTwice, Unfit, UnfitOperand, Astray, Unset, UnsetOperand, InOrder, Covered, Sound}
 use Rattle.routine.proofs.Texts.{step_past}
 use Rattle.routine.proofs.Walks.{decides_set}
 

@@ -1,12 +1,12 @@
 -- Paths of next steps are the paths of the graph that the search follows. Assumes nothing.
-use Rattle.std.proofs.Common.{◌≡◌, ℕ, ◌<◌, Bool, true, false, cond, eqb, ltb, ◌⊎◌, length, IsSomeAnd, Some, None, Decides, Option, sym, refl, ap, ◌∙◌, subst, inl, inr, ⊎_elim, arith}
+use Rattle.std.proofs.Common.{◌≡◌, ℕ, ◌<◌, Bool, true, false, cond, eqb, ltb, length, IsSomeAnd, Some, None, Decides, Option, sym, refl, ap, ◌∙◌, subst, inl, inr, ⊎_elim, arith}
 use borrow.Author.Tests.{clash}
-use Rattle.std.proofs.lemmas.Bool.Decides.{nat_tests, Decides-like, not_from_Decides, Decides-eqb}
+use Rattle.std.proofs.lemmas.Bool.Decides.{Decides-like, Decides-eqb}
 use Rattle.std.proofs.lemmas.Bool.{cases_Bool, ltb-true, lt-ltb}
 use Rattle.store.specs.declared.scalars.Scalar.{Scalar}
 use Rattle.search.specs.Paths.{Edge, Walk, step, onward, Between, Unstopped}
 use Rattle.steps.specs.Tables.{sets, nexts}
-use Rattle.routine.specs.Flow.{Steps, step_at, Either, Sets, Next, Before}
+use Rattle.routine.specs.Flow.{Steps, step_at, Either, Sets, Next}
 use Rattle.routine.specs.Graph.{two_slots, slot, below, leads, is_set}
 use Rattle.routine.specs.Rules.{Unset}
 

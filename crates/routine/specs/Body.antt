@@ -1,6 +1,5 @@
 -- The body of a routine: 1 to 256 steps of 16 bytes, one after the other.
 use Rattle.std.specs.Prelude.{◌≡◌, ℕ, ◌*◌, ◌/◌, ◌<◌, ◌≤◌, List, [], ◌∷◌, ◌++◌, length, take, drop}
-use Rattle.steps.specs.declared.step.Step.{Step}
 use Rattle.steps.specs.Format.{encoded, Spells}
 use Rattle.routine.specs.Flow.{Steps, step_at}
 

@@ -3,7 +3,7 @@ use Rattle.std.specs.Prelude.{ℕ, Bool, true, false, cond, not, ◌&&◌, lengt
 use Rattle.store.specs.declared.scalars.Scalar.{Scalar}
 use Rattle.steps.specs.declared.step.Takes.{Takes}
 use Rattle.steps.specs.Types.{accepts}
-use Rattle.steps.specs.Tables.{sets, nexts}
+use Rattle.steps.specs.Tables.{nexts}
 use Rattle.routine.specs.Flow.{Steps, step_at}
 
 abbrev pub two_slots : ℕ → ℕ

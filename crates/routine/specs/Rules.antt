@@ -1,5 +1,5 @@
 -- What makes a step bad, number by number, the answers that the rules allow, and what an accepted routine has.
-use Rattle.std.specs.Prelude.{◌≡◌, ℕ, ◌+◌, ◌<◌, ◌≤◌, Bool, true, false, ◌⊎◌, List, length, IsSomeAnd, Some, None, Ok, Err, Result}
+use Rattle.std.specs.Prelude.{◌≡◌, ℕ, ◌+◌, ◌<◌, ◌≤◌, true, false, ◌⊎◌, List, length, IsSomeAnd, Some, Ok, Err, Result}
 use Rattle.store.specs.declared.scalars.Scalar.{Scalar}
 use Rattle.first.specs.First.{Nowhere, Somewhere, FirstAt, Answer, Granted, Numbered}
 use Rattle.steps.specs.declared.step.Step.{Step}

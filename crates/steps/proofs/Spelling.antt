@@ -1,5 +1,5 @@
 -- A step read from its own bytes is that step. Assumes nothing.
-use Rattle.std.proofs.Common.{◌≡◌, ℕ, ◌+◌, ◌*◌, ◌/◌, ◌%◌, Bool, true, false, cond, ◌&&◌, eqb, ltb, List, length, Some, None, Option, sym, refl, ap, ◌∙◌, subst, arith}
+use Rattle.std.proofs.Common.{◌≡◌, ℕ, ◌+◌, ◌*◌, ◌/◌, ◌%◌, Bool, true, ◌&&◌, List, length, Some, None, Option, sym, refl, ap, ◌∙◌, subst, arith}
 use Rattle.std.proofs.lemmas.Bool.Decides.{nat_tests}
 use Rattle.std.proofs.lemmas.Bool.{and_parts}
 use Rattle.store.specs.declared.scalars.Scalar.{Scalar}
@@ -14,9 +14,8 @@ use Rattle.steps.specs.declared.step.Comparison.TheVariants.{Equal, Less}
 use Rattle.steps.specs.declared.step.Step.{Step}
 use Rattle.steps.specs.declared.step.Step.TheVariants.{Stop, Set, Copy, Compute, Compare, Load, Store, Offset, Retype, Resize, Jump, Branch}
 use Rattle.steps.specs.declared.fields.Fields.{Fields}
-use Rattle.steps.specs.Types.{same_type, is_integral, is_word}
-use Rattle.steps.specs.Tables.{operands, sets}
-use Rattle.steps.specs.Format.{letter_of, row, fields_of, form_of, bits_of, bytes_of, encoded, is_type, lettered, typed, numbered, fitting, formed, Spells, Reads, Decoded}
+use Rattle.steps.specs.Types.{same_type}
+use Rattle.steps.specs.Format.{letter_of, row, fields_of, form_of, bits_of, bytes_of, encoded, is_type, lettered, typed, formed, Spells, Decoded}
 use Rattle.steps.specs.Decoding.{bound, operand_of, fields_at, step_of}
 
 -- BYTES

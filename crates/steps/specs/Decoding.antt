@@ -1,7 +1,6 @@
 -- The step that fields name by their code, letter, value and operands. Fields that the step does not use are not looked at here.
 use Rattle.std.specs.Prelude.{ℕ, ◌/◌, ◌%◌, cond, List, Some, None, Option, ◌==◌}
 use Rattle.little_endian.specs.Numbers.{byte, two, four}
-use Rattle.store.specs.declared.scalars.Scalar.{Scalar}
 use Rattle.store.specs.Scalars.{scalar_of}
 use Rattle.steps.specs.declared.step.Operand.{Operand}
 use Rattle.steps.specs.declared.step.Operand.TheVariants.{Value, Literal}

@@ -1,7 +1,7 @@
 -- The types that steps and their operands have.
-use Rattle.std.specs.Prelude.{ℕ, Bool, true, false, cond, not, ◌&&◌, ◌==◌}
+use Rattle.std.specs.Prelude.{ℕ, Bool, not, ◌&&◌, ◌==◌}
 use Rattle.store.specs.declared.tags.Kind.{Kind}
-use Rattle.store.specs.declared.tags.Kind.TheVariants.{Unallocated, Uninitialized, Zero, Integral, Real, Pointer, Torn}
+use Rattle.store.specs.declared.tags.Kind.TheVariants.{Integral, Pointer}
 use Rattle.store.specs.declared.scalars.Scalar.{Scalar}
 use Rattle.store.specs.Cells.{number_of}
 use Rattle.steps.specs.declared.step.Takes.{Takes}

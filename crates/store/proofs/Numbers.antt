@@ -1,11 +1,11 @@
 -- Kinds by their numbers, and what a sound cell tells. Assumes nothing.
-use Rattle.std.proofs.Common.{◌≡◌, ℕ, ◌<◌, ◌≤◌, Bool, true, false, cond, ◌&&◌, ◌||◌, eqb, ltb, Some, None, sym, refl, ap, ◌∙◌, arith}
+use Rattle.std.proofs.Common.{◌≡◌, ℕ, ◌<◌, Bool, true, false, cond, eqb, ltb, Some, None, sym, refl, ap, ◌∙◌, arith}
 use Rattle.std.proofs.lemmas.Bool.Decides.{nat_tests}
 use Rattle.std.proofs.lemmas.Bool.{and_parts, ltb-true}
 use Rattle.store.specs.declared.tags.Kind.{Kind}
 use Rattle.store.specs.declared.tags.Kind.TheVariants.{Unallocated, Uninitialized, Zero, Integral, Real, Pointer, Torn}
 use Rattle.store.specs.declared.tags.Cell.{Cell}
-use Rattle.store.specs.Cells.{Memory, asked, cell_of, unallocated, number_of, kind_of, is_size, sized, single, fitting, sound, blank}
+use Rattle.store.specs.Cells.{Memory, asked, cell_of, unallocated, number_of, kind_of, is_size, sized, single, sound, blank}
 
 pub kind_number : (k : Kind) → kind_of (number_of k) ≡ k
 kind_number Unallocated = refl

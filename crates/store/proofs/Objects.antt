@@ -1,12 +1,11 @@
 -- In a whole memory all the bytes of an object agree. Assumes nothing.
-use Rattle.std.proofs.Common.{◌≡◌, ℕ, zero, suc, ◌+◌, ◌-◌, ◌<◌, ◌≤◌, Bool, true, false, cond, ◌&&◌, ◌||◌, eqb, ltb, leb, ◌⊎◌, sym, refl, ap, ◌∙◌, subst, inl, inr, ⊎_elim, arith}
+use Rattle.std.proofs.Common.{◌≡◌, ℕ, zero, suc, ◌+◌, ◌-◌, ◌<◌, ◌≤◌, Bool, true, false, cond, ◌&&◌, ltb, leb, ◌⊎◌, refl, ap, ◌∙◌, inl, inr, ⊎_elim, arith}
 use Rattle.std.proofs.lemmas.Bool.Decides.{nat_tests}
-use Rattle.std.proofs.lemmas.Bool.{cases_lt, true≢false, false≢true, and_from, lt-ltb, eq-eqb}
+use Rattle.std.proofs.lemmas.Bool.{cases_lt, true≢false, false≢true}
 use Rattle.store.specs.declared.tags.Kind.{Kind}
-use Rattle.store.specs.declared.tags.Kind.TheVariants.{Unallocated}
 use Rattle.store.specs.declared.tags.Cell.{Cell}
 use Rattle.store.specs.declared.placing.Placing.{Placing}
-use Rattle.store.specs.Cells.{Memory, cell_of, unallocated, torn, number_of, sized, fresh, among, touched, sound, next, blank, Whole}
+use Rattle.store.specs.Cells.{Memory, cell_of, torn, fresh, among, touched, next, Whole}
 use Rattle.store.specs.Objects.{Among, Object, Divided}
 use Rattle.store.specs.Placing.{carried, laid, last, span_in}
 use Rattle.store.proofs.Numbers.{cell_is, blank_is, inside_of, sized_of}

@@ -1,12 +1,12 @@
 -- What a placing keeps. Assumes nothing.
-use Rattle.std.proofs.Common.{◌≡◌, ℕ, ◌+◌, ◌-◌, ◌<◌, ◌≤◌, Bool, true, false, cond, not, ◌&&◌, ◌||◌, eqb, ltb, leb, ◌⊎◌, sym, refl, ap, ◌∙◌, subst, inl, inr, ⊎_elim, arith}
+use Rattle.std.proofs.Common.{◌≡◌, ℕ, ◌+◌, ◌-◌, ◌<◌, ◌≤◌, Bool, true, false, cond, ltb, refl, ⊎_elim, arith}
 use Rattle.std.proofs.lemmas.Bool.Decides.{nat_tests}
 use Rattle.std.proofs.lemmas.Bool.{cases_Bool, and_from, lt-ltb}
 use Rattle.store.specs.declared.tags.Kind.{Kind}
 use Rattle.store.specs.declared.tags.Cell.{Cell}
 use Rattle.store.specs.declared.placing.Placing.{Placing}
 use Rattle.store.specs.Placing.{laid}
-use Rattle.store.specs.Cells.{Memory, empty, cell_of, unallocated, torn, kind_of, is_size, sized, single, fitting, fresh, among, touched, placed, refused, sound, next, blank, Whole}
+use Rattle.store.specs.Cells.{Memory, empty, cell_of, unallocated, torn, kind_of, sized, single, fitting, fresh, among, touched, placed, refused, sound, next, Whole}
 use Rattle.store.proofs.Numbers.{blank_is, single-size, inside_of}
 
 -- what a placing that is not refused asks

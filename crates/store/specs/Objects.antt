@@ -1,5 +1,5 @@
 -- Memory in the words of objects.
-use Rattle.std.specs.Prelude.{◌≡◌, ℕ, ◌+◌, ◌<◌, ◌≤◌, Bool, true}
+use Rattle.std.specs.Prelude.{◌≡◌, ℕ, ◌+◌, ◌<◌, ◌≤◌, true}
 use Rattle.store.specs.declared.tags.Kind.{Kind}
 use Rattle.store.specs.Cells.{Memory, cell_of, unallocated, sized}
 

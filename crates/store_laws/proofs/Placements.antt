@@ -1,17 +1,17 @@
 -- What a placing does, and what is read after it, in the words of objects. Assumes nothing.
-use Rattle.std.proofs.Common.{◌≡◌, ℕ, zero, suc, ◌+◌, ◌-◌, ◌<◌, ◌≤◌, Bool, true, false, cond, ◌&&◌, eqb, ltb, leb, ◌⊎◌, Some, None, Ok, Err, Result, sym, refl, ap, ◌∙◌, subst, inl, inr, ⊎_elim, arith}
+use Rattle.std.proofs.Common.{◌≡◌, ℕ, zero, suc, ◌+◌, ◌-◌, ◌<◌, ◌≤◌, Bool, true, false, cond, ◌&&◌, eqb, leb, ◌⊎◌, Some, None, Ok, Err, Result, refl, ap, ◌∙◌, subst, inl, inr, ⊎_elim, arith}
 use Rattle.std.proofs.lemmas.Bool.Decides.{nat_tests}
-use Rattle.std.proofs.lemmas.Bool.{cases_lt, cases_Bool, cases_eq, and_from, and_left, and_right, lt-ltb, eq-eqb, ne_eqb, true≢false}
+use Rattle.std.proofs.lemmas.Bool.{cases_lt, cases_Bool, cases_eq, and_from, and_left, and_right, eq-eqb, ne_eqb}
 use Rattle.store.specs.declared.tags.Kind.{Kind}
 use Rattle.store.specs.declared.tags.Kind.TheVariants.{Unallocated, Uninitialized, Zero, Integral, Real, Pointer, Torn}
 use Rattle.store.specs.declared.tags.Cell.{Cell}
-use Rattle.store.specs.Cells.{Memory, Whole, cell_of, torn, kind_of, number_of, sized, single, fitting, fresh, among, touched, placed, put, refused, reply}
+use Rattle.store.specs.Cells.{Memory, Whole, cell_of, torn, kind_of, number_of, single, fitting, fresh, among, touched, placed, put, refused, reply}
 use Rattle.store.specs.Objects.{Among, Object, Together}
 use Rattle.store.specs.Reading.{same, all_of, kind_read, read_answer}
 use Rattle.store.proofs.Numbers.{single-size, inside_of}
 use Rattle.store.proofs.Placings.{granted, whole-placed}
 use Rattle.store.proofs.Readings.{not-all, not_first, read_object}
-use Rattle.store_laws.specs.Laws.{Placed, Placing, Read, Reading, read_back}
+use Rattle.store_laws.specs.Laws.{Placing, Reading, read_back}
 
 is_among : (a n i : ℕ) → Among a n i → among a n i ≡ true
 is_among a n i h = grind (arith, nat_tests)

@@ -1,6 +1,6 @@
-use Rattle.std.proofs.Common.{◌≡◌, ℕ, ◌<◌, ◌≤◌, cond, ◌&&◌, ltb, leb, sym, ap, ◌∙◌, arith}
+use Rattle.std.proofs.Common.{◌≡◌, ℕ, ◌≤◌, cond, ◌&&◌, ltb, leb, ap, ◌∙◌, arith}
 use mathlib.Core.Path.{fun_ext}
-use Rattle.store.specs.Placing.{laid, span_in}
+use Rattle.store.specs.Placing.{laid}
 use Rattle.store.proofs.Objects.{span_carried, span_up, span_within}
 use Rattle.flat.specs.Rows.{memory}
 use Rattle.flat.proofs.Held.{laid_more}

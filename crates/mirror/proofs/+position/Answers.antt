@@ -1,5 +1,5 @@
-use Rattle.std.proofs.Common.{◌≡◌, ◌+◌, sym, ap, ◌∙◌, arith}
-use Rattle.mirror.specs.Nibbles.{nibbles, place_in}
+use Rattle.std.proofs.Common.{◌≡◌, ◌+◌, ap, ◌∙◌, arith}
+use Rattle.mirror.specs.Nibbles.{nibbles}
 use Rattle.mirror.proofs.Decoding.{place_first, place_second, place_further}
 use Rattle.mirror.proofs.+position.Goals as goal
 

@@ -1,4 +1,4 @@
-use Rattle.std.proofs.Common.{◌≡◌, ◌+◌, ◌-◌, ◌<◌, sym, ap, ◌∙◌, arith, rules}
+use Rattle.std.proofs.Common.{◌≡◌, ◌+◌, ◌-◌, ◌<◌, ap, ◌∙◌, arith, rules}
 use Rattle.store.proofs.Numbers.{inside_of}
 use Rattle.mirror.specs.Nibbles.{nibbles, place_in, decoded, size_from}
 use Rattle.mirror.proofs.decode.Goals as goal

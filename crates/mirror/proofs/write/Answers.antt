@@ -1,4 +1,4 @@
-use Rattle.std.proofs.Common.{◌≡◌, ℕ, ◌+◌, ◌<◌, ◌≤◌, true, cond, ◌&&◌, ltb, leb, sym, ap, ◌∙◌, arith}
+use Rattle.std.proofs.Common.{◌≡◌, ℕ, ◌≤◌, cond, ◌&&◌, ltb, leb, sym, ap, ◌∙◌, arith}
 use Rattle.store.specs.Placing.{laid, span_in, carried}
 use Rattle.store.proofs.Placings.{sound-laid}
 use Rattle.store.proofs.Objects.{span_carried, span_up, span_within, whole-carried}

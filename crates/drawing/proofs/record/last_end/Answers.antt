@@ -1,4 +1,4 @@
-use Rattle.std.proofs.Common.{◌≡◌, ℕ, max, ap, ◌∙◌, add-one}
+use Rattle.std.proofs.Common.{ℕ, max, ap, ◌∙◌, add-one}
 use Rattle.drawing.specs.Drawn.{ending}
 use Rattle.drawing.proofs.record.last_end.Goals as goal
 

@@ -1,5 +1,4 @@
-use Rattle.std.proofs.Common.{◌≡◌, ℕ, List, Ok, sym, refl, ap, ◌∙◌, subst}
-use Rattle.store.specs.Cells.{Memory as Cells}
+use Rattle.std.proofs.Common.{◌≡◌, ℕ, List, Ok, sym, refl, ◌∙◌, subst}
 use Rattle.areas.specs.Calls.{opened}
 use Rattle.layout.specs.Fields.{count_of}
 use Rattle.layout.specs.Placing.{Inside, laid_cells}

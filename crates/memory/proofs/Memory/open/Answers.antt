@@ -1,8 +1,8 @@
-use Rattle.std.proofs.Common.{◌≡◌, sym, refl, ap, ◌∙◌, subst}
-use Rattle.areas.specs.Calls.{left, opened}
+use Rattle.std.proofs.Common.{sym, refl, ap, ◌∙◌, subst}
+use Rattle.areas.specs.Calls.{left}
 use Rattle.areas.proofs.Order.{granted-opening}
-use Rattle.memory.specs.State.{State, view}
-use Rattle.memory.specs.Rules.{after_open, opens}
+use Rattle.memory.specs.State.{view}
+use Rattle.memory.specs.Rules.{opens}
 use Rattle.memory.specs.Tied.{Tied, UnchangedOutside}
 use Rattle.memory.proofs.Tying.{others_open, tied_opened}
 use Rattle.memory.proofs.Reaching.{state_is}

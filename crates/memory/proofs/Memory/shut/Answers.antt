@@ -1,8 +1,8 @@
-use Rattle.std.proofs.Common.{◌≡◌, ℕ, Some, None, Ok, Option, sym, refl, ap, ◌∙◌, subst, arith}
+use Rattle.std.proofs.Common.{◌≡◌, ℕ, Some, None, Ok, Option, sym, ap, ◌∙◌, subst, arith}
 use Rattle.areas.specs.declared.area.Area.{Area}
 use Rattle.areas.specs.Ordered.{without}
 use Rattle.areas.specs.Calls.{shut_answer as answer-with-area}
-use Rattle.memory.specs.State.{State, view}
+use Rattle.memory.specs.State.{view}
 use Rattle.memory.specs.Rules.{shut_answer, shut_found, shuts}
 use Rattle.memory.specs.Tied.{ShutAlone, Tied}
 use Rattle.memory.proofs.Tying.{tied_shut}

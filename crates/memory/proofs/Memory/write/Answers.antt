@@ -1,6 +1,6 @@
-use Rattle.std.proofs.Common.{◌≡◌, cond, sym, refl, ap, ◌∙◌, subst}
+use Rattle.std.proofs.Common.{cond, sym, refl, ap, ◌∙◌, subst}
 use Rattle.store.specs.Cells.{put}
-use Rattle.memory.specs.State.{State, view}
+use Rattle.memory.specs.State.{view}
 use Rattle.memory.specs.Rules.{writes}
 use Rattle.memory.specs.Tied.{Tied}
 use Rattle.memory.proofs.Reaching.{state_is, tied_writes}

@@ -1,5 +1,5 @@
-use Rattle.std.proofs.Common.{◌≡◌, ℕ, ◌+◌, ap, ◌∙◌, add-one, arith}
-use Rattle.store.specs.Cells.{Memory as Cells, put}
+use Rattle.std.proofs.Common.{◌≡◌, ◌+◌, ap, ◌∙◌, add-one, arith}
+use Rattle.store.specs.Cells.{put}
 use Rattle.memory.proofs.Covering.{spread, covered}
 use Rattle.memory.proofs.calls.cover.Goals as goal
 

@@ -1,10 +1,10 @@
-use Rattle.std.proofs.Common.{◌≡◌, ℕ, List, IfOk, Ok, Err, Result, sym, refl, ap, ◌∙◌, subst}
+use Rattle.std.proofs.Common.{◌≡◌, ℕ, List, IfOk, Ok, Err, Result, sym, ap, ◌∙◌, subst}
 use Rattle.std.proofs.lemmas.Result.{err_from_is_err_and}
 use Rattle.first.specs.First.{Answer, Granted, Numbered, Only}
 use Rattle.areas.specs.declared.area.Area.{Area}
 use Rattle.areas.specs.Calls.{opened}
 use Rattle.layout.specs.declared.layout.Layout.{Layout}
-use Rattle.layout.specs.Fields.{Reads, count_of}
+use Rattle.layout.specs.Fields.{count_of}
 use Rattle.layout.specs.Rules.{answer_of}
 use Rattle.layout.specs.Rules.{Allowed as Granted-body}
 use Rattle.memory.specs.Import.{Allowed, Unhoused}

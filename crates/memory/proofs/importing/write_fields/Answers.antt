@@ -1,7 +1,6 @@
-use Rattle.std.proofs.Common.{◌≡◌, true, cond, None, sym, ap, ◌∙◌, subst, add-one, rules}
-use Rattle.std.proofs.lemmas.Bool.{cond-true, lt-ltb}
+use Rattle.std.proofs.Common.{◌≡◌, ◌∙◌, add-one, rules}
 use Rattle.layout.specs.Fields.{field_at}
-use Rattle.memory.specs.Import.{laid_bytes, write_field}
+use Rattle.memory.specs.Import.{write_field}
 use Rattle.memory.proofs.importing.write_fields.Goals as goal
 
 pub loop-k-preserved : goal.loop-k-preserved

@@ -1,4 +1,4 @@
-use Rattle.std.proofs.Common.{◌≡◌, length}
+use Rattle.std.proofs.Common.{◌≡◌}
 use Rattle.memory.specs.Bytes.{held}
 use Rattle.memory.specs.Import.{laid_bytes}
 use Rattle.memory.proofs.importing.write_fields.Given as goal

@@ -1,6 +1,6 @@
 use Rattle.std.proofs.Common.{◌≡◌, ℕ, ◌+◌, ◌*◌, Some, ap, ◌∙◌, arith}
 use Rattle.std.proofs.lemmas.Bool.{lt-ltb}
-use Rattle.mirror.specs.Nibbles.{nibbles, nibble_of, decoded, mirrored}
+use Rattle.mirror.specs.Nibbles.{nibbles, nibble_of, decoded}
 use Rattle.mirror.proofs.Decoding.{byte-made}
 use Rattle.mirror.proofs.MirrorMirrored.byte.Goals as goal
 

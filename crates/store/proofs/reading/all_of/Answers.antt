@@ -1,4 +1,4 @@
-use Rattle.std.proofs.Common.{◌+◌, sym, ◌∙◌, add-one}
+use Rattle.std.proofs.Common.{◌+◌, sym, add-one}
 use Rattle.std.proofs.lemmas.Bool.{and_from}
 use Rattle.store.specs.Reading.{same, all_of}
 use Rattle.store.proofs.Readings.{not-all}

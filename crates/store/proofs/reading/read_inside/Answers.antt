@@ -1,9 +1,7 @@
-use Rattle.std.proofs.Common.{◌≡◌, true, false, ltb, sym, refl, ap, ◌∙◌, subst, arith}
-use Rattle.std.proofs.lemmas.Bool.{lt-ltb, ne_eqb}
+use Rattle.std.proofs.Common.{◌≡◌, sym, refl, ap, ◌∙◌}
+use Rattle.std.proofs.lemmas.Bool.{ne_eqb}
 use Rattle.store.specs.declared.tags.Kind.TheVariants.{Uninitialized, Zero}
-use Rattle.store.specs.declared.tags.Cell.{Cell}
-use Rattle.store.specs.Cells.{Memory, number_of, asked}
-use Rattle.store.specs.Reading.{kind_read}
+use Rattle.store.specs.Cells.{number_of}
 use Rattle.store.proofs.Numbers.{same_kind, asked_is}
 use Rattle.store.proofs.Readings.{read_object, read_uninitialized, read_zero}
 use Rattle.store.proofs.reading.read_inside.Goals as goal

@@ -1,5 +1,4 @@
-use Rattle.std.proofs.Common.{◌≡◌, ◌<◌, true, length, sym, subst, arith, rules}
-use Rattle.std.proofs.lemmas.List.{length-take-le}
+use Rattle.std.proofs.Common.{◌≡◌, true, sym, subst, arith, rules}
 use Rattle.areas.specs.Area.{area_of}
 use Rattle.areas.specs.Ordered.{ordered, Added}
 use Rattle.areas.specs.Calls.{opened}

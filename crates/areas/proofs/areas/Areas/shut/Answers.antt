@@ -1,4 +1,4 @@
-use Rattle.std.proofs.Common.{◌≡◌, true, false, not, take, sym, ◌∙◌, subst, arith, rules}
+use Rattle.std.proofs.Common.{◌≡◌, true, not, sym, subst, arith, rules}
 use Rattle.areas.specs.Area.{begins}
 use Rattle.areas.specs.Ordered.{ordered}
 use Rattle.areas.specs.Calls.{opened}

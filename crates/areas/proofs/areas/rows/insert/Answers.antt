@@ -1,4 +1,4 @@
-use Rattle.std.proofs.Common.{◌≡◌, ℕ, ◌+◌, ◌++◌, length, take, drop, set, sym, refl, ap, ◌∙◌, arith}
+use Rattle.std.proofs.Common.{◌≡◌, ℕ, ◌++◌, take, drop, sym, ap, ◌∙◌, arith}
 use Rattle.areas.specs.Area.{area_of}
 use Rattle.areas.proofs.Carrying.{carried, carried-inserted, carry_more, rest_more, carry_all}
 use Rattle.areas.proofs.areas.rows.insert.Goals as goal

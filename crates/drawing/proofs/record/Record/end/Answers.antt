@@ -1,4 +1,4 @@
-use Rattle.std.proofs.Common.{◌≡◌, ℕ, min, sym, ap, ◌∙◌, subst}
+use Rattle.std.proofs.Common.{min, sym, ap, ◌∙◌, subst}
 use Rattle.drawing.specs.Drawn.{Ends}
 use Rattle.drawing.proofs.Endings.{ends}
 use Rattle.drawing.proofs.record.Record.end.Goals as goal

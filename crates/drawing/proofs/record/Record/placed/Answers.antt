@@ -1,4 +1,4 @@
-use Rattle.std.proofs.Common.{◌≡◌, ℕ, List, Ok, sym, refl, ap, ◌∙◌, subst}
+use Rattle.std.proofs.Common.{◌≡◌, ℕ, List, Ok, sym, refl, ◌∙◌, subst}
 use Rattle.store.specs.Cells.{Memory, empty}
 use Rattle.store.proofs.Placings.{whole-empty}
 use Rattle.layout.specs.Fields.{count_of, Reads}

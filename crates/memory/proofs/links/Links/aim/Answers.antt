@@ -1,4 +1,4 @@
-use Rattle.std.proofs.Common.{◌≡◌, sym, ap, ◌∙◌, arith}
+use Rattle.std.proofs.Common.{sym, ap, ◌∙◌, arith}
 use Rattle.store.proofs.Numbers.{asked_is}
 use Rattle.memory.specs.Links.{is_pointer}
 use Rattle.memory.proofs.Pointing.{pointer-within}

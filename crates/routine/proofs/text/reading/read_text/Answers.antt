@@ -1,4 +1,4 @@
-use Rattle.std.proofs.Common.{◌<◌, ◌≢◌, length, get_or, sym, ◌∙◌, subst, arith, length-set, get_or-set_other, get_or-set_same, below_more}
+use Rattle.std.proofs.Common.{◌<◌, ◌≢◌, length, sym, subst, arith, length-set, get_or-set_other, get_or-set_same, below_more}
 use Rattle.steps.specs.Format.{Spells}
 use Rattle.steps.specs.declared.step.Step.TheVariants.{Stop}
 use Rattle.routine.specs.Body.{part}

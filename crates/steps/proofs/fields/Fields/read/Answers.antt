@@ -1,4 +1,4 @@
-use Rattle.std.proofs.Common.{◌≡◌, ℕ, ◌/◌, ◌%◌, List, get_or, Option, ap, ◌∙◌}
+use Rattle.std.proofs.Common.{◌≡◌, ℕ, ◌/◌, ◌%◌, Option, ap, ◌∙◌}
 use Rattle.steps.specs.declared.step.Operand.{Operand}
 use Rattle.steps.specs.Format.{row}
 use Rattle.steps.specs.Decoding.{fields_at, operand_of}
