@@ -2,7 +2,7 @@
 """Respells this repository's own definitions and lemmas: words in snake case, types in camel case.
 
 Run once, at the top of the repository, after the toolchain's port script. A function, a field of a record or a constructor that specs/ or
-proofs/ defines has its words joined by '_'; in a lemma a dash stays where it joins two names of definitions. Names of src/, of std and of
+proofs/ defines, and what an import is called, has its words joined by '_'; in a lemma a dash stays where it joins two names of definitions. Names of src/, of std and of
 generated goals stay. Files are rewritten in place; what fell together is listed and nothing is written then.
 """
 
@@ -61,6 +61,14 @@ def main():
     for name in own:
         if name not in new and "specs" not in defined[name] and name in {new[n] for n in new if "specs" in defined[n]}:
             new[name] = name + "_lem"
+    # what an import is called here
+    for path in antt("specs") + antt("proofs") + sorted(glob.glob("crates/*/src/**/*.rt", recursive=True)):
+        with open(path, encoding="utf-8") as f:
+            for alias in re.findall(r"\bas (" + WORD + ")", f.read()):
+                if alias[0].isupper() and "-" in alias:
+                    new[alias] = camel(alias)
+                elif alias[0].islower() and snake(alias).replace("-", "_") != alias:
+                    new[alias] = snake(alias).replace("-", "_")
     files = antt("specs") + antt("proofs") + sorted(glob.glob("crates/*/src/**/*.rt", recursive=True)) + sorted(glob.glob("crates/*/must-fail/*.edit"))
     fields = set()
     for kind in ("specs", "proofs"):

@@ -14,7 +14,7 @@ use Rattle.areas.proofs.Order.{lawful-within}
 use Rattle.layout.specs.declared.field.Field.{Field}
 use Rattle.layout.specs.Fields.{Owns, byte_of, count_of, field_at}
 use Rattle.layout.specs.Rules.{Common, Shared}
-use Rattle.layout.specs.Rules.{Allowed as Granted-body}
+use Rattle.layout.specs.Rules.{Allowed as GrantedBody}
 use Rattle.layout.specs.Placing.{Has, Inside}
 use Rattle.layout.specs.Placing as placing
 use Rattle.memory.specs.Bytes.{Bytes}
@@ -22,7 +22,7 @@ use Rattle.memory.specs.Import.{Allowed, Left, Unhoused, cut, granted, kept, lai
 
 module _ (xs : List Area) (b : List ℕ) where
   -- a body that is refused as it is
-  pub answer_body : (e : ℕ × ℕ) → Only (Granted-body b) (Err e) → Only (Allowed xs b) (Err e)
+  pub answer_body : (e : ℕ × ℕ) → Only (GrantedBody b) (Err e) → Only (Allowed xs b) (Err e)
   answer_body e h = record { allows = wrong_body e h.allows; alone = alone }
     where
       no_such : ◌≡◌ {A = Answer} (Ok tt) (Err e) → ⊥
@@ -34,7 +34,7 @@ module _ (xs : List Area) (b : List ℕ) where
       alone _ (granted g f) = absurd (no_such (h.alone (Ok tt) g))
 
   -- a body that is not, by its fields' areas
-  pub answer-areas : (n : ℕ) → n ≡ count_of b → Only (Granted-body b) (Ok tt) → (a : Answer) → Only (Numbered 27 (Unhoused xs b) n Granted) a → Only (Allowed xs b) a
+  pub answer-areas : (n : ℕ) → n ≡ count_of b → Only (GrantedBody b) (Ok tt) → (a : Answer) → Only (Numbered 27 (Unhoused xs b) n Granted) a → Only (Allowed xs b) a
   answer-areas n e g a h = only_like to from a (subst (λ n. Only (Numbered 27 (Unhoused xs b) n Granted) a) e h)
     where
       no_such : (d : ℕ × ℕ) → ◌≡◌ {A = Answer} (Err d) (Ok tt) → ⊥
@@ -50,7 +50,7 @@ module _ (xs : List Area) (b : List ℕ) where
       from _ (granted x f) = inr (f, refl)
 
   -- what a granted import keeps
-  pub granted_keeps : (a : Answer) → Allowed xs b a → a ≡ Ok tt → Granted-body b (Ok tt) × Nowhere (Unhoused xs b) (count_of b)
+  pub granted_keeps : (a : Answer) → Allowed xs b a → a ≡ Ok tt → GrantedBody b (Ok tt) × Nowhere (Unhoused xs b) (count_of b)
   granted_keeps _ (wrong_body d x) e = let z : ◌≡◌ {A = ℕ} 0 1 = cc in absurd (omega arith)
   granted_keeps _ (no_area k x f) e = let z : ◌≡◌ {A = ℕ} 0 1 = cc in absurd (omega arith)
   granted_keeps _ (granted x f) e = (x, f)

@@ -5,7 +5,7 @@ use Rattle.store.specs.declared.tags.Kind.{Kind}
 use Rattle.store.specs.declared.tags.Kind.TheVariants.{Unallocated, Uninitialized}
 use Rattle.store.specs.Cells.{Memory as Cells, kind_of, number_of, single, sized, sound, fresh, among, touched, torn, placed, put, refused}
 use Rattle.store.proofs.Numbers.{single-size}
-use Rattle.store.proofs.Placings.{granted as placing-granted, sound-placed}
+use Rattle.store.proofs.Placings.{granted as placing_granted, sound-placed}
 use Rattle.first.specs.First.{Answer, Nowhere}
 use Rattle.areas.specs.declared.area.Area.{Area}
 use Rattle.areas.specs.Area.{begins, lawful}
@@ -61,7 +61,7 @@ sound_range m a k n s h i =
 sound-put : (m : Cells) (a k n : ℕ) → Sound m → Sound (put m a k n)
 sound-put m a k n h i =
     cond_both (refused a k n) m (placed m a (kind_of k) n) (λ o. sound (o i) ≡ true) (λ _. h i)
-    (λ r. sound-placed m a (kind_of k) n i (placing-granted a k n r).2 (h i))
+    (λ r. sound-placed m a (kind_of k) n i (placing_granted a k n r).2 (h i))
 
 sound-field : (m : Cells) (o : Option Field) → Sound m → Sound (put_field m o)
 sound-field m None h = h

@@ -8,7 +8,7 @@ use Rattle.areas.specs.Area.{lawful}
 use Rattle.areas.specs.Calls.{left}
 use Rattle.layout.specs.declared.field.Field.{Field}
 use Rattle.layout.specs.Fields.{Owns, byte_of, count_of, field_at}
-use Rattle.layout.specs.Rules.{Allowed as Granted-body}
+use Rattle.layout.specs.Rules.{Allowed as GrantedBody}
 use Rattle.layout.specs.Placing.{Cuts, Has, laid_cells}
 use Rattle.memory.specs.Bytes.{Bytes, written}
 use Rattle.memory.specs.State.{State, state_of}
@@ -19,9 +19,9 @@ Unhoused xs b k = MatchOption (field_at b k) ⊥ (λ f. lawful xs f.address f.sc
 
 -- What the rules allow: first a body is refused as it is wherever it is imported, by 8, 9 or 10. Then 27 is tried over all its fields.
 pub data Allowed (xs : List Area) (b : List ℕ) : Answer → Type 0 where
-  wrong_body : (e : ℕ × ℕ) → Granted-body b (Err e) → Allowed xs b (Err e)
-  no_area : (k : ℕ) → Granted-body b (Ok tt) → FirstAt (Unhoused xs b) (count_of b) k → Allowed xs b (Err (27, k))
-  granted : Granted-body b (Ok tt) → Nowhere (Unhoused xs b) (count_of b) → Allowed xs b (Ok tt)
+  wrong_body : (e : ℕ × ℕ) → GrantedBody b (Err e) → Allowed xs b (Err e)
+  no_area : (k : ℕ) → GrantedBody b (Ok tt) → FirstAt (Unhoused xs b) (count_of b) k → Allowed xs b (Err (27, k))
+  granted : GrantedBody b (Ok tt) → Nowhere (Unhoused xs b) (count_of b) → Allowed xs b (Ok tt)
 
 -- the bytes once the first n fields hold their reset values
 abbrev pub write_field : Bytes → Option Field → Bytes

@@ -1,8 +1,8 @@
 // The next steps as a graph, and the steps that a path may be asked not to pass.
 ghost use Rattle.std.specs.Prelude.{◌≡◌, ◌≤◌};
-ghost use Rattle.steps.specs.Tables.{sets as setBy, checks as checksOf};
+ghost use Rattle.steps.specs.Tables.{sets as set_by, checks as checks_of};
 ghost use Rattle.routine.specs.Flow.{step_at};
-ghost use Rattle.routine.specs.Graph.{two_slots, slot as slot_of, below, leads as leadsIn, is_set};
+ghost use Rattle.routine.specs.Graph.{two_slots, slot as slot_of, below, leads as leads_in, is_set};
 ghost use Rattle.routine.specs.Claims.{is_it, checks_it};
 ghost use Rattle.routine.specs.Text.{text_of};
 
@@ -36,7 +36,7 @@ fn in_slot(nexts: (Option<u32>, Option<u32>), slot: u32) -> Option<u32>
 impl Graph for Flow<'_> {
     ghost slots = { λ _. two_slots };
 
-    ghost leads = { λ s. leadsIn (text_of s.text.now) };
+    ghost leads = { λ s. leads_in (text_of s.text.now) };
 
     fn slot_count(&self, _node: u8) -> u32 {
         2
@@ -58,7 +58,7 @@ fn is_set(value: u32, set: Option<(u8, Scalar)>) -> bool
 }
 
 pub(crate) fn sets_value(step: Step, value: u32) -> bool
-    ensures { result ≡ is_set value (setBy step) }
+    ensures { result ≡ is_set value (set_by step) }
 {
     is_set(value, step.sets())
 }
@@ -88,7 +88,7 @@ pub(crate) struct Setters<'a> {
 }
 
 impl Stops for Setters<'_> {
-    ghost stop = { λ s i. is_set s.value (setBy (step_at (text_of s.text.now) i)) };
+    ghost stop = { λ s i. is_set s.value (set_by (step_at (text_of s.text.now) i)) };
 
     fn is_stop(&self, node: u8) -> bool {
         sets_value(self.text.step(node as u32), self.value)

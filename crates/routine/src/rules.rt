@@ -2,9 +2,9 @@
 ghost use Rattle.std.specs.Prelude.{◌≡◌, ◌+◌, ◌<◌, ◌≤◌, false, ◌⊎◌, length, IsSomeAnd, Decides};
 ghost use Rattle.first.specs.First.{Nowhere, Somewhere};
 ghost use Rattle.search.specs.Paths.{Edge, Unstopped};
-ghost use Rattle.steps.specs.Tables.{sets as setBy, targets as targetsOf, terminator};
+ghost use Rattle.steps.specs.Tables.{sets as set_by, targets as targets_of, terminator};
 ghost use Rattle.routine.specs.Flow.{step_at, Either, Sets};
-ghost use Rattle.routine.specs.Graph.{two_slots, leads as leadsIn, is_set, is_other};
+ghost use Rattle.routine.specs.Graph.{two_slots, leads as leads_in, is_set, is_other};
 ghost use Rattle.routine.specs.Rules.{Malformed, SetTwice, SetsOther, Unfit, UnfitOperand, Astray, Unset, UnsetOperand};
 ghost use Rattle.routine.specs.Text.{text_of};
 
@@ -174,7 +174,7 @@ fn is_past(count: u32, target: Option<u16>) -> bool
 }
 
 fn has_target_past(text: &Text, place: u32) -> bool
-    ensures { Decides result (Either (λ j. length (text_of text.now) ≤ j) (targetsOf (step_at (text_of text.now) place))) }
+    ensures { Decides result (Either (λ j. length (text_of text.now) ≤ j) (targets_of (step_at (text_of text.now) place))) }
 {
     let targets = text.step(place).targets();
     is_past(text.len(), targets.0) || is_past(text.len(), targets.1)
@@ -209,7 +209,7 @@ impl Test for Strays<'_> {
 // Whether a path leads from step 0 to step `to` with no step between them that sets the value.
 fn reaches_unset(text: &Text, value: u32, to: u8, marks: &mut [u8]) -> bool
     requires { 256 ≤ length marks.old }
-    ensures { Decides result (Unstopped (Edge two_slots (leadsIn (text_of text.now))) (λ i. is_set value (setBy (step_at (text_of text.now) i))) 0 to) }
+    ensures { Decides result (Unstopped (Edge two_slots (leads_in (text_of text.now))) (λ i. is_set value (set_by (step_at (text_of text.now) i))) 0 to) }
 {
     let mut guard = Marks::over(marks);
     match guard.follow_unstopped(&Flow { text }, &Setters { text, value }, 0) {

@@ -1,7 +1,7 @@
 // What each step has as operands, what it sets, and where it leads.
 ghost use Rattle.std.specs.Prelude.{◌≡◌};
-ghost use Rattle.steps.specs.Types.{accepts as acceptsType, same_type, is_integral, is_word};
-ghost use Rattle.steps.specs.Tables.{operands as operandsOf, sets as setBy, unsure, targets as targetsOf, terminator, nexts as nextsOf, uses as usesOf, used_in, checks as checksOf, checked_in, checked as checkedUse, plain as plainUse};
+ghost use Rattle.steps.specs.Types.{accepts as accepts_type, same_type, is_integral, is_word};
+ghost use Rattle.steps.specs.Tables.{operands as operands_of, sets as set_by, unsure, targets as targets_of, terminator, nexts as nexts_of, uses as uses_of, used_in, checks as checks_of, checked_in, checked as checked_use, plain as plain_use};
 
 use crate::step::{Operand, Step, Takes, Use};
 use store::scalars::Scalar;
@@ -42,7 +42,7 @@ pub(crate) fn is_word(scalar: Scalar) -> bool
 }
 
 fn checked(operand: Operand, takes: Takes) -> Option<Use>
-    ensures { result ≡ checkedUse operand takes }
+    ensures { result ≡ checked_use operand takes }
 {
     Some(Use {
         operand,
@@ -52,7 +52,7 @@ fn checked(operand: Operand, takes: Takes) -> Option<Use>
 }
 
 fn plain(operand: Operand, takes: Takes) -> Option<Use>
-    ensures { result ≡ plainUse operand takes }
+    ensures { result ≡ plain_use operand takes }
 {
     Some(Use {
         operand,
@@ -88,7 +88,7 @@ fn value_checked(used: Option<Use>) -> Option<u32>
 impl Takes {
     // Whether a value of the type may stand there.
     pub fn accepts(self, scalar: Scalar) -> bool
-        ensures { result ≡ acceptsType self scalar }
+        ensures { result ≡ accepts_type self scalar }
     {
         match self {
             Takes::Exactly(own) => is_same(scalar, own),
@@ -101,7 +101,7 @@ impl Takes {
 impl Step {
     // Operands A and B.
     pub fn operands(self) -> (Option<Use>, Option<Use>)
-        ensures { result ≡ operandsOf self }
+        ensures { result ≡ operands_of self }
     {
         match self {
             Step::Stop | Step::Jump { .. } => (None, None),
@@ -148,7 +148,7 @@ impl Step {
 
     // The values that stand as A and as B, with what each operand takes.
     pub fn uses(self) -> (Option<(u32, Takes)>, Option<(u32, Takes)>)
-        ensures { result ≡ usesOf self }
+        ensures { result ≡ uses_of self }
     {
         let (a, b) = self.operands();
         (value_used(a), value_used(b))
@@ -156,7 +156,7 @@ impl Step {
 
     // The values that the step checks, as A and as B.
     pub fn checks(self) -> (Option<u32>, Option<u32>)
-        ensures { result ≡ checksOf self }
+        ensures { result ≡ checks_of self }
     {
         let (a, b) = self.operands();
         (value_checked(a), value_checked(b))
@@ -164,7 +164,7 @@ impl Step {
 
     // The value that the step sets, and its type.
     pub fn sets(self) -> Option<(u8, Scalar)>
-        ensures { result ≡ setBy self }
+        ensures { result ≡ set_by self }
     {
         match self {
             Step::Set { scalar, value, .. }
@@ -190,7 +190,7 @@ impl Step {
     }
 
     pub fn targets(self) -> (Option<u16>, Option<u16>)
-        ensures { result ≡ targetsOf self }
+        ensures { result ≡ targets_of self }
     {
         match self {
             Step::Jump { to } => (Some(to), None),
@@ -211,7 +211,7 @@ impl Step {
 
     // The next steps of the step, where it stands at `at`.
     pub fn nexts(self, at: u16) -> (Option<u32>, Option<u32>)
-        ensures { result ≡ nextsOf self at }
+        ensures { result ≡ nexts_of self at }
     {
         match self {
             Step::Stop => (None, None),

@@ -1,6 +1,6 @@
 // The verdict on the claim that a check may be left out.
 ghost use Rattle.std.specs.Prelude.{◌≡◌, ℕ, ◌<◌, ◌≤◌, length, Some, Decides};
-ghost use Rattle.steps.specs.Tables.{checks as checksOf};
+ghost use Rattle.steps.specs.Tables.{checks as checks_of};
 ghost use Rattle.routine.specs.Claims.{checked_at, Unsure, Exposes, Judged, Answers};
 ghost use Rattle.routine.specs.Flow.{step_at};
 ghost use Rattle.routine.specs.Text.{steps_of};
@@ -53,7 +53,7 @@ impl Routine {
 
     // Whether operand A of the step checks the value, so that the check in B of the same value comes after it.
     fn is_covered_by_a(&self, step: u8, operand: u8, value: u32) -> bool
-        ensures { Decides result ((operand ≡ 1) × ((checksOf (step_at (steps_of self.now) step)).0 ≡ Some value)) }
+        ensures { Decides result ((operand ≡ 1) × ((checks_of (step_at (steps_of self.now) step)).0 ≡ Some value)) }
     {
         operand == 1 && is_it(value, self.text.step(step as u32).checks().0)
     }

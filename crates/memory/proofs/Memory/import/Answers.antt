@@ -2,7 +2,7 @@ use Rattle.std.proofs.Common.{◌≡◌, ℕ, List, Ok, sym, refl, ◌∙◌, su
 use Rattle.areas.specs.Calls.{opened}
 use Rattle.layout.specs.Fields.{count_of}
 use Rattle.layout.specs.Placing.{Inside, laid_cells}
-use Rattle.layout.proofs.Answering.{granted_keeps as body-keeps}
+use Rattle.layout.proofs.Answering.{granted_keeps as body_keeps}
 use Rattle.memory.specs.Bytes.{Bytes, held}
 use Rattle.memory.specs.Import.{Left, imports, laid_bytes}
 use Rattle.memory.specs.State.{view}
@@ -38,6 +38,6 @@ returns g c =
       answer = h.answer;
       left = is;
       law = λ i. subst (λ (f : Bytes). Left s.bytes s.cells b n i (f i) (g.S.Cells.cells c.place.new.store i)) (sym bytes)
-          (with_byte s.bytes b i s.cells n _ (body-keeps b (Ok tt) keeps.0 refl).2 (laid i));
+          (with_byte s.bytes b i s.cells n _ (body_keeps b (Ok tt) keeps.0 refl).2 (laid i));
       tied = λ t. subst Tied (sym is) (tied_laid s b n keeps.1 t);
     }

@@ -1,7 +1,7 @@
 use Rattle.std.proofs.Common.{◌≡◌, ℕ, Some, None, Ok, Option, sym, ap, ◌∙◌, subst, arith}
 use Rattle.areas.specs.declared.area.Area.{Area}
 use Rattle.areas.specs.Ordered.{without}
-use Rattle.areas.specs.Calls.{shut_answer as answer-with-area}
+use Rattle.areas.specs.Calls.{shut_answer as answer_with_area}
 use Rattle.memory.specs.State.{view}
 use Rattle.memory.specs.Rules.{shut_answer, shut_found, shuts}
 use Rattle.memory.specs.Tied.{ShutAlone, Tied}
@@ -10,7 +10,7 @@ use Rattle.memory.proofs.Reaching.{found_start, shut_alone, state_is}
 use Rattle.memory.proofs.Memory.shut.Goals as goal
 
 -- the area that was shut is the one that was found
-was_found : (o : Option Area) (x : Area) → Ok x ≡ answer-with-area o → Some x ≡ o
+was_found : (o : Option Area) (x : Area) → Ok x ≡ answer_with_area o → Some x ≡ o
 was_found (Some y) x e = cc
 was_found None x e = let no_such : ◌≡◌ {A = ℕ} 0 1 = cc in absurd (omega arith)
 

@@ -6,13 +6,13 @@ use Rattle.areas.specs.Calls.{opened}
 use Rattle.layout.specs.declared.layout.Layout.{Layout}
 use Rattle.layout.specs.Fields.{count_of}
 use Rattle.layout.specs.Rules.{answer_of}
-use Rattle.layout.specs.Rules.{Allowed as Granted-body}
+use Rattle.layout.specs.Rules.{Allowed as GrantedBody}
 use Rattle.memory.specs.Import.{Allowed, Unhoused}
 use Rattle.memory.proofs.Placed.{answer_body, answer-areas}
 use Rattle.memory.proofs.importing.check.Goals as goal
 
 -- the body that the layout has is the one that was read
-homes : (xs : List Area) (b l : List ℕ) (n : ℕ) → l ≡ b → n ≡ count_of b → Only (Granted-body b) (Ok tt) → (a : Answer) → Only (Numbered 27 (Unhoused xs l) n Granted) a → Only (Allowed xs b) a
+homes : (xs : List Area) (b l : List ℕ) (n : ℕ) → l ≡ b → n ≡ count_of b → Only (GrantedBody b) (Ok tt) → (a : Answer) → Only (Numbered 27 (Unhoused xs l) n Granted) a → Only (Allowed xs b) a
 homes xs b l n e m g a h = answer-areas xs b n m g a (subst (λ l. Only (Numbered 27 (Unhoused xs l) n Granted) a) e h)
 
 -- a refusal makes no layout
