@@ -1,3 +1,3 @@
 pub mod Order
-pub mod Carrying
 pub mod Places
+pub mod Searches

@@ -1,5 +1,5 @@
 -- Areas in order of address, no two sharing a byte.
-use Rattle.std.specs.Prelude.{◌≡◌, ℕ, suc, ◌+◌, ◌<◌, ◌≤◌, Bool, true, cond, not, ◌&&◌, ◌⊎◌, List, [], ◌∷◌, Some, None, filter, Option, nat_le, nat_lt}
+use Rattle.std.specs.Prelude.{◌≡◌, ℕ, suc, ◌+◌, ◌<◌, ◌≤◌, Bool, true, cond, not, ◌&&◌, ◌⊎◌, List, [], ◌∷◌, length, Some, None, filter, Option, nat_le, nat_lt}
 use Rattle.std.specs.List.{slice_get}
 use Rattle.std.specs.Option.{option_map}
 use Rattle.areas.specs.declared.area.Area.{Area}
@@ -53,3 +53,9 @@ pub record Added (xs : List Area) (new : Area) (ys : List Area) : Type 0 where
   pub has_old : (x : Area) → In x xs → In x ys
   pub no_other : (x : Area) → In x ys → (x ≡ new) ⊎ In x xs
   pub in_order : InOrder ys
+
+-- the first n areas begin below the limit, and the later ones at it or above
+pub record Parted (limit : ℕ) (xs : List Area) (n : ℕ) : Type 0 where
+  pub within : n ≤ length xs
+  pub low : (i : ℕ) (x : Area) → i < n → slice_get xs i ≡ Some x → x.start < limit
+  pub high : (i : ℕ) (x : Area) → n ≤ i → slice_get xs i ≡ Some x → limit ≤ x.start

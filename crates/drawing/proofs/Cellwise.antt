@@ -7,7 +7,8 @@ use Rattle.store.specs.Cells.{empty}
 use Rattle.layout.specs.declared.field.Field.{Field}
 use Rattle.layout.specs.Fields.{field_at, count_of}
 use Rattle.layout.specs.Placing.{Inside, Has, Left, own, cut, kept}
-use Rattle.drawing.specs.Drawn.{Past, Shown, own as shown, gap}
+use Rattle.drawing.specs.Fields.{Past}
+use Rattle.drawing.specs.Drawn.{Shown, own as shown, gap}
 
 -- no field past the memory: each lies inside
 pub inside : (b : List ℕ) (n : ℕ) → Nowhere (Past b) n → Inside b n

@@ -1,5 +1,4 @@
 pub mod Answers
 pub mod Cellwise
 pub mod Endings
-pub mod Halves
 pub mod Rowwise

@@ -6,7 +6,8 @@ use Rattle.store.specs.declared.tags.Cell.{Cell}
 use Rattle.store.specs.Cells.{cell_of}
 use Rattle.layout.specs.declared.field.Field.{Field}
 use Rattle.layout.specs.declared.layout.Layout.{Layout}
-use Rattle.layout.specs.Fields.{field_at, count_of, Owns, Reads}
+use Rattle.layout.specs.Fields.{field_at, count_of, Owns}
+use Rattle.layout.specs.Layouts.{Reads}
 use Rattle.layout.specs.Placing.{Has}
 use Rattle.layout.specs.Rules.{Shared}
 use Rattle.drawing.specs.Drawn.{Shown, own, gap, field_in, HasIn, CellByField}

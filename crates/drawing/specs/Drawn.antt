@@ -1,15 +1,18 @@
 -- What is drawn of a packed record, alone in a new memory of which all bytes may be used.
 use Rattle.std.specs.Prelude.{◌≡◌, ℕ, zero, suc, ◌+◌, ◌-◌, ◌%◌, ◌<◌, ◌≤◌, min, max, cond, ◌⊎◌, List, Some, None, Ok, Err, Option, MatchOption, ◌==◌, nat_lt}
 use Rattle.std.specs.Option.{option_map}
+use Rattle.refusal.specs.declared.Rule.TheVariants.{FieldInside}
+use Rattle.refusal.specs.Refusals.{Answer, Refusal}
 use Rattle.store.specs.declared.tags.Cell.{Cell}
 use Rattle.store.specs.Cells.{Memory, cell_of, unallocated}
 use Rattle.mirror.specs.Nibbles.{nibble_of}
-use Rattle.first.specs.First.{Answer, First, FirstAt, Nowhere}
+use Rattle.first.specs.First.{First, FirstAt, Nowhere}
 use Rattle.layout.specs.declared.field.Field.{Field}
 use Rattle.layout.specs.declared.layout.Layout.{Layout}
 use Rattle.layout.specs.Fields.{field_at, count_of, Owns, byte_of}
 use Rattle.layout.specs.Rules.{Allowed as Readable}
 use Rattle.layout.specs.Placing.{Has}
+use Rattle.drawing.specs.Fields.{Past}
 use Rattle.drawing.specs.declared.row.Row.{Row}
 use Rattle.drawing.specs.declared.row.Extent.{Extent}
 
@@ -17,14 +20,10 @@ use Rattle.drawing.specs.declared.row.Extent.{Extent}
 abbrev pub field_in : Layout → ℕ → Option Field
 field_in l k = cond (nat_lt k l.count) (field_at l.body.now k) None
 
--- 27: the field does not lie inside the memory, which counts as one open area
-abbrev pub Past : List ℕ → ℕ → Type 0
-Past b k = MatchOption (field_at b k) ⊥ (λ f. 4096 < f.address + f.scalar.size)
-
 -- the rules of a layout first, and 27 after them
 pub data Allowed (b : List ℕ) : Answer → Type 0 where
-  unreadable : (e : ℕ × ℕ) → Readable b (Err e) → Allowed b (Err e)
-  past_memory : (k : ℕ) → Readable b (Ok tt) → FirstAt (Past b) (count_of b) k → Allowed b (Err (27, k))
+  unreadable : (e : Refusal) → Readable b (Err e) → Allowed b (Err e)
+  past_memory : (k : ℕ) → Readable b (Ok tt) → FirstAt (Past b) (count_of b) k → Allowed b (Err (FieldInside, k))
   granted : Readable b (Ok tt) → Nowhere (Past b) (count_of b) → Allowed b (Ok tt)
 
 -- The cell of byte i: a byte of a field is that byte of an object of the field's kind and size, and any other is unallocated.

@@ -1,7 +1,7 @@
 // What is drawn of a byte and of a field, and how it reads.
 use std::fmt;
 use store::scalars::Scalar;
-use store::tags::{Cell, Kind};
+use store::tags::Cell;
 
 // One byte: the field that has it, if any, its cell, its nibble in the mirror and its reset byte.
 #[derive(Clone, Copy)]
@@ -22,22 +22,10 @@ pub struct Extent {
     pub odd: bool,
 }
 
-fn kind_name(kind: Kind) -> &'static str {
-    match kind {
-        Kind::Unallocated => "unallocated",
-        Kind::Uninitialized => "uninitialized",
-        Kind::Zero => "zero",
-        Kind::Integral => "integral",
-        Kind::Real => "real",
-        Kind::Pointer => "pointer",
-        Kind::Torn => "torn",
-    }
-}
-
 impl fmt::Display for Row {
     fn fmt<W: fmt::Write>(&self, f: &mut fmt::Formatter<W>) -> fmt::Result {
         let address = self.address;
-        let kind = kind_name(self.cell.kind);
+        let kind = self.cell.kind;
         let size = self.cell.size;
         let position = self.cell.position;
         let nibble = self.nibble;
@@ -58,7 +46,7 @@ impl fmt::Display for Row {
 
 impl fmt::Display for Extent {
     fn fmt<W: fmt::Write>(&self, f: &mut fmt::Formatter<W>) -> fmt::Result {
-        let kind = kind_name(self.scalar.kind);
+        let kind = self.scalar.kind;
         let size = self.scalar.size;
         let first = self.first;
         let last = self.last;

@@ -6,15 +6,15 @@ mod tests {
     use drawing::record::Record;
     use drawing::row::Row;
     use mirror::Mirror;
+    use refusal::numbered;
     use std::test::Fail;
     use store::halves::{Cells, Places};
-    use store::tags::Refusal;
 
     // (0, 0) for a body that is granted, and the refusal of any other.
-    fn answer(body: &[u8]) -> Refusal {
+    fn answer(body: &[u8]) -> (u8, u32) {
         match Record::read(body) {
             Ok(_) => (0, 0),
-            Err(refusal) => refusal,
+            Err(refusal) => numbered(refusal),
         }
     }
 
@@ -54,7 +54,7 @@ mod tests {
         match row {
             Some(row) => [
                 row.field.unwrap_or(255).min(255) as u8,
-                row.cell.kind.number(),
+                row.cell.kind.into(),
                 row.cell.size,
                 row.cell.position,
                 row.nibble,

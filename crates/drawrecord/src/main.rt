@@ -2,8 +2,10 @@
 #![tactic(auto)]
 
 use drawing::record::Record;
-use mapfile::{LONGEST, MapFile, Refusal, Section};
+use mapfile::{LONGEST, MapFile, Section};
 use mirror::Mirror;
+use refusal::Refusal;
+use std::io;
 use std::io::Read;
 use store::halves::{Cells, Places};
 
@@ -13,7 +15,27 @@ const MOST: u64 = LONGEST as u64 + 1;
 // The most fields that a record can have.
 const FIELDS: u32 = 64;
 
-fn draw(rt: &HostRuntime, record: Record) -> anyhow::Result<()> {
+// What ends a drawing early: a refusal, or output that fails.
+#[derive(Drop)]
+enum Halt {
+    Refused(Refusal),
+    Failed(io::Error),
+}
+
+impl From<Refusal> for Halt {
+    fn from(refusal: Refusal) -> Halt {
+        Halt::Refused(refusal)
+    }
+}
+
+impl From<io::Error> for Halt {
+    fn from(error: io::Error) -> Halt {
+        Halt::Failed(error)
+    }
+}
+
+// Loops by address and by number, since printing may fail at each line.
+fn draw(rt: &HostRuntime, record: Record) -> io::Result<()> {
     let store: Mirror = record.placed();
     for address in record.start()..record.end() {
         if let Some(row) = record.row(&store, address) {
@@ -28,14 +50,8 @@ fn draw(rt: &HostRuntime, record: Record) -> anyhow::Result<()> {
     Ok(())
 }
 
-fn refuse(rt: &HostRuntime, refusal: Refusal) -> anyhow::Result<()> {
-    let (number, place) = refusal;
-    println!(rt; "refused {number} {place}")?;
-    Ok(())
-}
-
-// Names a section, and draws it if it is a layout. A layout that is refused ends the drawing: the answer says whether to go on.
-fn show(rt: &HostRuntime, i: u32, section: Section) -> anyhow::Result<bool> {
+// Names a section, and draws it if it is a layout.
+fn show(rt: &HostRuntime, i: u32, section: Section) -> Result<(), Halt> {
     let (name, body) = match section {
         Section::Layout(body) => ("layout", body),
         Section::Routine(body) => ("routine", body),
@@ -44,23 +60,16 @@ fn show(rt: &HostRuntime, i: u32, section: Section) -> anyhow::Result<bool> {
     let length = body.len();
     println!(rt; "section {i} {name} length {length}")?;
     if let Section::Layout(body) = section {
-        match Record::read(body) {
-            Ok(record) => draw(rt, record)?,
-            Err(refusal) => {
-                refuse(rt, refusal)?;
-                return Ok(false);
-            }
-        }
+        draw(rt, Record::read(body)?)?;
     }
-    Ok(true)
+    Ok(())
 }
 
-fn show_all(rt: &HostRuntime, file: MapFile) -> anyhow::Result<()> {
+fn show_all(rt: &HostRuntime, file: &[u8]) -> Result<(), Halt> {
+    let file = MapFile::read(file)?;
     for i in 0..file.section_count() {
         if let Some(section) = file.section(i) {
-            if !show(rt, i, section)? {
-                return Ok(());
-            }
+            show(rt, i, section)?;
         }
     }
     Ok(())
@@ -69,10 +78,12 @@ fn show_all(rt: &HostRuntime, file: MapFile) -> anyhow::Result<()> {
 fn run(rt: &HostRuntime) -> anyhow::Result<()> {
     let mut file = Vec::new(rt.alloc());
     rt.stdin().take(MOST).read_to_end(&mut file)?;
-    match MapFile::read(file.as_slice()) {
-        Ok(file) => show_all(rt, file),
-        Err(refusal) => refuse(rt, refusal),
+    match show_all(rt, file.as_slice()) {
+        Ok(()) => {}
+        Err(Halt::Refused((rule, place))) => println!(rt; "refused {rule} {place}")?,
+        Err(Halt::Failed(error)) => return Err(error.into()),
     }
+    Ok(())
 }
 
 fn main(rt: HostRuntime) -> anyhow::Result<()> {

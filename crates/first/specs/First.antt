@@ -36,13 +36,18 @@ pub record Only {Answer : Type 0} (allowed : Answer → Type 0) (a : Answer) : T
   pub allows : allowed a
   pub alone : (b : Answer) → allowed b → b ≡ a
 
--- granted, or refused with a number and a place
-abbrev pub Answer : Type 0
-Answer = Result (Unit {0}) (ℕ × ℕ)
+-- granted, or refused by a rule at a place
+abbrev pub Answer : Type 0 → Type 0
+Answer Rule = Result (Unit {0}) (Rule × ℕ)
 
-abbrev pub Granted : Answer → Type 0
+abbrev pub Granted : {Rule : Type 0} → Answer Rule → Type 0
 Granted a = a ≡ Ok tt
 
--- a rule that refuses under its number
-abbrev pub Numbered : ℕ → (ℕ → Type 0) → ℕ → (Answer → Type 0) → Answer → Type 0
-Numbered number bad n = Tried bad n (λ k. Err (number, k))
+-- a rule that refuses by its own name
+abbrev pub Ruled : {Rule : Type 0} → Rule → (ℕ → Type 0) → ℕ → (Answer Rule → Type 0) → Answer Rule → Type 0
+Ruled rule bad n = Tried bad n (λ k. Err (rule, k))
+
+-- whether something was granted, and by what it was refused
+abbrev pub answer_of : {Rule X : Type 0} → Result X (Rule × ℕ) → Answer Rule
+answer_of (Ok x) = Ok tt
+answer_of (Err e) = Err e

@@ -1,14 +1,13 @@
-// Numbered rules over places: the fields of a record, the entries of a file, the steps of a routine.
-// A rule is tried over all its places before the next, and a refusal names the rule's number and its first bad place.
+// Rules over numbered places: the fields of a record, the entries of a file, the steps of a routine.
+// A rule is tried over all its places before the next, and a refusal names the rule and its first bad place.
 #![tactic(auto)]
 
-ghost use Rattle.std.specs.Prelude.{◌≡◌, ℕ, ◌<◌, Decides};
-ghost use Rattle.first.specs.First.{First, Granted, Numbered, Only, Somewhere};
-
-// The number of the rule that is broken, and the first place that breaks it.
-pub type Refusal = (u8, u32);
+ghost use Rattle.std.specs.Prelude.{◌≡◌, ℕ, ◌<◌, Decides, MatchOption};
+ghost use Rattle.first.specs.First.{First, Granted, Only, Ruled, Somewhere};
+ghost use Rattle.first.specs.Places.{Fills};
 
 // A test of numbered places. What makes a place bad is a proposition, which the call decides.
+// A closure would be no plainer: nothing is known of one but what its calls give, and a rule says in `bad` what it means.
 pub trait Test {
     ghost bad: { Self → ℕ → Type 0 };
 
@@ -25,38 +24,43 @@ pub trait Test {
 pub fn first_bad<T: Test>(test: &T) -> Option<u32>
     ensures { First (T.Test.bad test.now) (T.Test.places test.now) result }
 {
-    for place in 0..test.count() {
-        if test.fails(place) {
-            return Some(place);
-        }
-    }
-    None
+    (0..test.count()).find(|place| test.fails(*place))
 }
 
 // Whether there is a bad place.
 pub fn any_bad<T: Test>(test: &T) -> bool
     ensures { Decides result (Somewhere (T.Test.bad test.now) (T.Test.places test.now)) }
 {
-    match first_bad(test) {
-        Some(_) => true,
-        None => false,
-    }
+    first_bad(test).is_some()
 }
 
-// Refuses under `number` at the first bad place. Rules in order are `try_number(4, &a)?; try_number(5, &b)?;`.
-pub fn try_number<T: Test>(number: u8, test: &T) -> Result<(), Refusal>
-    ensures { Only (Numbered number (T.Test.bad test.now) (T.Test.places test.now) Granted) result }
+// Refuses by the rule at the first bad place. Rules in order are `try_rule(A, &a)?; try_rule(B, &b)?;`.
+pub fn try_rule<R: Copy, T: Test>(rule: R, test: &T) -> Result<(), (R, u32)>
+    ensures { Only (Ruled rule (T.Test.bad test.now) (T.Test.places test.now) Granted) result }
 {
     match first_bad(test) {
-        Some(place) => Err((number, place)),
+        Some(place) => Err((rule, place)),
         None => Ok(()),
     }
 }
 
 // Two rules in order: the second is tried only where the first holds nowhere. No other answer is allowed.
-pub fn try_two<A: Test, B: Test>(first: u8, a: &A, second: u8, b: &B) -> Result<(), Refusal>
-    ensures { Only (Numbered first (A.Test.bad a.now) (A.Test.places a.now) (Numbered second (B.Test.bad b.now) (B.Test.places b.now) Granted)) result }
+pub fn try_two<R: Copy, A: Test, B: Test>(first: R, a: &A, second: R, b: &B) -> Result<(), (R, u32)>
+    ensures { Only (Ruled first (A.Test.bad a.now) (A.Test.places a.now) (Ruled second (B.Test.bad b.now) (B.Test.places b.now) Granted)) result }
 {
-    try_number(first, a)?;
-    try_number(second, b)
+    try_rule(first, a)?;
+    try_rule(second, b)
+}
+
+// How many places of `size` bytes a row of `bytes` bytes has behind a head of `head`: 1 to `most`, with nothing left over.
+pub fn place_count(bytes: usize, head: usize, size: usize, most: usize) -> Option<usize>
+    ensures { MatchOption result ((n : ℕ) → Fills bytes head size most n → ⊥) (Fills bytes head size most) }
+{
+    let places = bytes.checked_sub(head)?;
+    let count = places.checked_div(size)?;
+    if count >= 1 && count <= most && places % size == 0 {
+        Some(count)
+    } else {
+        None
+    }
 }

@@ -1,23 +1,25 @@
 -- A body has one answer that the rules allow. Assumes nothing.
 use Rattle.std.proofs.Common.{◌≡◌, ℕ, true, List, is_some, IfSome, Some, None, Ok, Err, Option, sym, refl, subst, inl, inr, arith}
-use Rattle.first.specs.First.{Nowhere, Only, Answer, Granted, Numbered}
+use Rattle.refusal.specs.declared.Rule.TheVariants.{LayoutLength, FieldForm, FieldsApart}
+use Rattle.refusal.specs.Refusals.{Answer}
+use Rattle.first.specs.First.{Nowhere, Only, Granted, Ruled}
 use Rattle.first.proofs.Firsts.{only_like}
 use Rattle.layout.specs.declared.field.Field.{Field}
 use Rattle.layout.specs.Fields.{field_at, count_of, Measured}
 use Rattle.layout.specs.Rules.{TooLarge, Unfit, Shared, Allowed, wrong_length, unfit_field, shared_byte, granted}
 
 module _ (b : List ℕ) where
-  pub answer-length : (Measured b → ⊥) → Only (Allowed b) (Err (8, 0))
+  pub answer-length : (Measured b → ⊥) → Only (Allowed b) (Err (LayoutLength, 0))
   answer-length h = record { allows = wrong_length h; alone = alone }
     where
-      alone : (a : Answer) → Allowed b a → a ≡ Err (8, 0)
+      alone : (a : Answer) → Allowed b a → a ≡ Err (LayoutLength, 0)
       alone _ (wrong_length _) = refl
       alone _ (unfit_field k m f) = absurd (h m)
       alone _ (shared_byte k m n f) = absurd (h m)
       alone _ (granted m n s) = absurd (h m)
 
   abbrev InOrder : ℕ → Answer → Type 0
-  InOrder n = Numbered 9 (Unfit b) n (Numbered 10 (Shared b) n Granted)
+  InOrder n = Ruled FieldForm (Unfit b) n (Ruled FieldsApart (Shared b) n Granted)
 
   -- a body of a right length has the answer of its fields' rules, in their order
   pub answer_fields : (n : ℕ) → n ≡ count_of b → Measured b → (a : Answer) → Only (InOrder n) a → Only (Allowed b) a

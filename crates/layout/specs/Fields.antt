@@ -7,7 +7,6 @@ use Rattle.store.specs.declared.scalars.Scalar.{Scalar}
 use Rattle.store.specs.Scalars.{scalar_of}
 use Rattle.store.specs.Objects.{Among}
 use Rattle.layout.specs.declared.field.Field.{Field}
-use Rattle.layout.specs.declared.layout.Layout.{Layout}
 
 -- where field k begins in a body
 abbrev pub start_of : ℕ → ℕ
@@ -31,10 +30,6 @@ count_of b = (length b - 2) / 7
 
 abbrev pub Measured : List ℕ → Type 0
 Measured b = (1 ≤ count_of b) × (count_of b ≤ 64) × (length b ≡ 2 + 7 * count_of b)
-
--- the layout of the body b
-abbrev pub Reads : List ℕ → Layout → Type 0
-Reads b l = (l.body.now ≡ b) × (l.count ≡ count_of b)
 
 -- byte i of memory is one of the field's own
 abbrev pub Owns : Field → ℕ → Type 0

@@ -1,3 +1,4 @@
 pub mod Fields
 pub mod Rules
 pub mod Placing
+pub mod Layouts

@@ -1,6 +1,8 @@
 -- What makes a body bad, number by number, and the answers that the rules allow.
-use Rattle.std.specs.Prelude.{ℕ, ◌^◌, ◌≤◌, List, IfSome, Ok, Err, Result, MatchOption}
-use Rattle.first.specs.First.{Nowhere, Somewhere, FirstAt, Answer}
+use Rattle.std.specs.Prelude.{ℕ, ◌^◌, ◌≤◌, List, IfSome, Ok, Err, MatchOption}
+use Rattle.refusal.specs.declared.Rule.TheVariants.{LayoutLength, FieldForm, FieldsApart}
+use Rattle.refusal.specs.Refusals.{Answer}
+use Rattle.first.specs.First.{Nowhere, Somewhere, FirstAt}
 use Rattle.layout.specs.declared.field.Field.{Field}
 use Rattle.layout.specs.Fields.{field_at, count_of, Measured, Owns}
 
@@ -20,14 +22,13 @@ Common f g = (i : ℕ) × Owns f i × Owns g i
 abbrev pub Shared : List ℕ → ℕ → Type 0
 Shared b k = MatchOption (field_at b k) ⊥ (λ f. Somewhere (λ j. MatchOption (field_at b j) ⊥ (λ e. Common e f)) k)
 
--- each number is tried over all fields before the next, and the first bad field is named
-pub data Allowed (b : List ℕ) : Answer → Type 0 where
-  wrong_length : (Measured b → ⊥) → Allowed b (Err (8, 0))
-  unfit_field : (k : ℕ) → Measured b → FirstAt (Unfit b) (count_of b) k → Allowed b (Err (9, k))
-  shared_byte : (k : ℕ) → Measured b → Nowhere (Unfit b) (count_of b) → FirstAt (Shared b) (count_of b) k → Allowed b (Err (10, k))
-  granted : Measured b → Nowhere (Unfit b) (count_of b) → Nowhere (Shared b) (count_of b) → Allowed b (Ok tt)
+-- a body that breaks no rule
+abbrev pub Accepted : List ℕ → Type 0
+Accepted b = Measured b × Nowhere (Unfit b) (count_of b) × Nowhere (Shared b) (count_of b)
 
--- granted or refused, whatever it is that is granted
-abbrev pub answer_of : {A : Type 0} → Result A (ℕ × ℕ) → Answer
-answer_of (Ok x) = Ok tt
-answer_of (Err e) = Err e
+-- each rule is tried over all fields before the next, and the first bad field is named
+pub data Allowed (b : List ℕ) : Answer → Type 0 where
+  wrong_length : (Measured b → ⊥) → Allowed b (Err (LayoutLength, 0))
+  unfit_field : (k : ℕ) → Measured b → FirstAt (Unfit b) (count_of b) k → Allowed b (Err (FieldForm, k))
+  shared_byte : (k : ℕ) → Measured b → Nowhere (Unfit b) (count_of b) → FirstAt (Shared b) (count_of b) k → Allowed b (Err (FieldsApart, k))
+  granted : Measured b → Nowhere (Unfit b) (count_of b) → Nowhere (Shared b) (count_of b) → Allowed b (Ok tt)

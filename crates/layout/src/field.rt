@@ -1,5 +1,5 @@
 // A field of a packed record.
-ghost use Rattle.std.specs.Prelude.{◌≡◌, ◌/◌, ◌^◌, Decides, nat_lt};
+ghost use Rattle.std.specs.Prelude.{◌≡◌, ◌+◌, ◌/◌, ◌^◌, Decides, nat_lt};
 ghost use Rattle.store.specs.Cells.{among};
 ghost use Rattle.layout.specs.Fields.{byte_of};
 ghost use Rattle.layout.specs.Rules.{Common};
@@ -40,7 +40,15 @@ impl Field {
         above(self.reset, self.scalar.size) > 0
     }
 
-    fn has(&self, byte: u32) -> bool
+    // Where the field ends: the address past its last byte.
+    pub fn end(&self) -> u64
+        ensures { result ≡ self.now.address + self.now.scalar.size }
+    {
+        self.address as u64 + self.scalar.size as u64
+    }
+
+    // Whether the byte of memory is one of the field's own.
+    pub fn has(&self, byte: u32) -> bool
         ensures { result ≡ among self.now.address self.now.scalar.size byte }
     {
         self.address <= byte && byte - self.address < self.scalar.size as u32

@@ -6,16 +6,17 @@ mod tests {
     use flat::Flat;
     use layout::field::Field;
     use layout::layout::Layout;
+    use refusal::numbered;
     use std::test::Fail;
     use store::halves::{Cells, Places};
     use store::scalars::Scalar;
-    use store::tags::{Cell, Kind, Refusal};
+    use store::tags::{Cell, Kind};
 
     // 0 and the number of fields of a granted body, and the refusal of any other.
-    fn answer(body: &[u8]) -> Refusal {
+    fn answer(body: &[u8]) -> (u8, u32) {
         match Layout::read(body) {
             Ok(layout) => (0, layout.field_count()),
-            Err(refusal) => refusal,
+            Err(refusal) => numbered(refusal),
         }
     }
 

@@ -7,17 +7,14 @@ ghost use Rattle.little_endian.specs.Numbers.{byte, two, four};
 pub fn byte_at(bytes: &[u8], i: usize) -> u8
     ensures { result ≡ byte bytes.now i }
 {
-    if i < bytes.len() { bytes[i] } else { 0 }
+    bytes.get(i).copied().unwrap_or(0)
 }
 
 // The byte `k` above byte `i`. Where the sum has no number, no slice has the byte.
 fn byte_above(bytes: &[u8], i: usize, k: usize) -> u8
     ensures { result ≡ byte bytes.now (i + k) }
 {
-    match i.checked_add(k) {
-        Some(i) => byte_at(bytes, i),
-        None => 0,
-    }
+    i.checked_add(k).map_or(0, |i| byte_at(bytes, i))
 }
 
 // The number of two bytes.

@@ -2,7 +2,9 @@
 use Rattle.std.proofs.Common.{◌≡◌, ℕ, zero, suc, ◌+◌, ◌-◌, ◌<◌, ◌≤◌, ◌⊎◌, List, ◌++◌, length, take, Ok, Err, sym, refl, ap, ◌∙◌, subst, inl, inr, ⊎_elim, arith, take-add}
 use Rattle.std.proofs.lemmas.List.{append_assoc, append-nil, take_all, length-take, length-drop}
 use Rattle.std.proofs.lemmas.Bool.{cases_eq, cases_lt}
-use Rattle.first.specs.First.{Somewhere, FirstAt, One, Only, Answer}
+use Rattle.refusal.specs.declared.Rule.TheVariants.{MapFile}
+use Rattle.refusal.specs.Refusals.{Answer}
+use Rattle.first.specs.First.{Somewhere, FirstAt, One, Only}
 use Rattle.first.proofs.Firsts.{tried_one, if_broken_one, exactly_one, only, only_like, somewhere_or}
 use Rattle.mapfile.specs.Files.{entry_count, letter_at, offset_at, length_at, body_at, end_at, header_length, header, due_at, bodies}
 use Rattle.mapfile.specs.Sections.{Single, TheBody}
@@ -46,9 +48,9 @@ module _ (file : List ℕ) where
       (λ e. inr (inr (inr (inl e))))
       (cases_eq (offset_at file 0) (header_length file))
 
-  pub cut-answer : (a : Answer) → Only (Allowed file) a → Cut file → a ≡ Err (1, 0)
+  pub cut-answer : (a : Answer) → Only (Allowed file) a → Cut file → a ≡ Err (MapFile, 0)
   cut-answer a h (u, short) =
-      sym (h.alone (Err (1, 0)) (bad_entry 0 u (record { below = some_entry u; here = cut_entry short; before = λ j l _. absurd (omega arith) })))
+      sym (h.alone (Err (MapFile, 0)) (bad_entry 0 u (record { below = some_entry u; here = cut_entry short; before = λ j l _. absurd (omega arith) })))
 
   module _ (ok : Accepted file) where
     placed : (i : ℕ) → i < n → offset_at file i ≡ due_at file i

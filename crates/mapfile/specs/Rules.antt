@@ -1,6 +1,8 @@
 -- Which files are read, and which answer the others get.
 use Rattle.std.specs.Prelude.{◌≡◌, ℕ, ◌<◌, ◌≤◌, ◌⊎◌, List, ◌++◌, length, Ok, Err}
-use Rattle.first.specs.First.{Nowhere, Somewhere, FirstAt, IfBroken, Numbered, Granted, Answer}
+use Rattle.refusal.specs.declared.Rule.TheVariants.{MapFile}
+use Rattle.refusal.specs.Refusals.{Answer}
+use Rattle.first.specs.First.{Nowhere, Somewhere, FirstAt, IfBroken, Ruled, Granted}
 use Rattle.mapfile.specs.Files.{entry_count, letter_at, offset_at, length_at, body_at, end_at, header_length, header, due_at, bodies}
 
 -- the letters 'L', 'R' and 'C'
@@ -56,17 +58,17 @@ pub record Accepted (file : List ℕ) : Type 0 where
 
 -- The answers that the rules allow, by the first rule that is broken. Its place is an entry's number, or the count where no entry is to blame.
 pub data Allowed (file : List ℕ) : Answer → Type 0 where
-  unreadable : Unreadable file → Allowed file (Err (1, entry_count file))
-  bad_entry : (i : ℕ) → (Unreadable file → ⊥) → FirstAt (BadEntry file) (entry_count file) i → Allowed file (Err (1, i))
-  incomplete : (Unreadable file → ⊥) → Nowhere (BadEntry file) (entry_count file) → Incomplete file → Allowed file (Err (1, entry_count file))
+  unreadable : Unreadable file → Allowed file (Err (MapFile, entry_count file))
+  bad_entry : (i : ℕ) → (Unreadable file → ⊥) → FirstAt (BadEntry file) (entry_count file) i → Allowed file (Err (MapFile, i))
+  incomplete : (Unreadable file → ⊥) → Nowhere (BadEntry file) (entry_count file) → Incomplete file → Allowed file (Err (MapFile, entry_count file))
   accepted : Accepted file → Allowed file (Ok tt)
 
 -- the same, rule after rule
 abbrev pub InOrder : List ℕ → Answer → Type 0
 InOrder file =
-    IfBroken (Unreadable file) (Err (1, entry_count file))
-    (Numbered 1 (BadEntry file) (entry_count file)
-    (IfBroken (Incomplete file) (Err (1, entry_count file)) Granted))
+    IfBroken (Unreadable file) (Err (MapFile, entry_count file))
+    (Ruled MapFile (BadEntry file) (entry_count file)
+    (IfBroken (Incomplete file) (Err (MapFile, entry_count file)) Granted))
 
 -- the file ends within its header
 abbrev pub Cut : List ℕ → Type 0

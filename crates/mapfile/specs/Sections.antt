@@ -1,7 +1,7 @@
 -- What the reader answers and hands out.
-use Rattle.std.specs.Prelude.{◌≡◌, ℕ, ◌<◌, ◌≤◌, true, ◌⊎◌, List, is_some, Some, None, Ok, Err, Option, Result}
-use Rattle.first.specs.First.{FirstAt, Answer}
-use Rattle.mapfile.specs.declared.reader.MapFile.{MapFile}
+use Rattle.std.specs.Prelude.{◌≡◌, ℕ, ◌<◌, ◌≤◌, true, ◌⊎◌, List, is_some, Some, None, Option}
+use Rattle.first.specs.First.{FirstAt}
+use Rattle.mapfile.specs.declared.map_file.MapFile.{MapFile}
 use Rattle.mapfile.specs.declared.section.Section.{Section}
 use Rattle.mapfile.specs.declared.section.Section.TheVariants.{Layout, Routine, Claims}
 use Rattle.mapfile.specs.Files.{entry_count, letter_at, body_at}
@@ -41,8 +41,3 @@ Single letter = (letter ≡ routine_letter) ⊎ (letter ≡ claims_letter)
 -- the body of the first entry under a letter, which in an accepted file is the only one
 abbrev pub TheBody : List ℕ → ℕ → List ℕ → Type 0
 TheBody file letter part = (i : ℕ) × FirstAt (Under file letter) (entry_count file) i × (part ≡ body_at file i) × (Accepted file → Sole file letter i)
-
--- granted, or refused with a number and a place
-abbrev pub answer_of : {X : Type 0} → Result X (ℕ × ℕ) → Answer
-answer_of (Ok x) = Ok tt
-answer_of (Err e) = Err e

@@ -1,11 +1,9 @@
-// What makes an entry bad.
-ghost use Rattle.std.specs.Prelude.{◌≡◌, ℕ, ◌<◌, length, Decides};
+// The entries of a file as numbered places. Each test is a struct, for the reason at `first::Test`.
 ghost use Rattle.mapfile.specs.Files.{entry_count};
-ghost use Rattle.mapfile.specs.Rules.{Under, Unknown, Second, Misplaced, Overrun, BadEntry};
+ghost use Rattle.mapfile.specs.Rules.{Under, BadEntry};
 
-use crate::bytes::{due_at, end_at, entry_count, letter_at, offset_at};
-use crate::section::section_at;
-use first::{Test, any_bad};
+use crate::entry::{Entry, entry_count};
+use first::Test;
 
 // The entries under a letter, of those before a given one: it is they that the test finds.
 #[derive(Drop)]
@@ -25,40 +23,12 @@ impl Test for Lettered<'_> {
     }
 
     fn fails(&self, place: u32) -> bool {
-        letter_at(self.file, place) == self.letter
+        let entry = Entry {
+            file: self.file,
+            number: place,
+        };
+        entry.letter() == self.letter
     }
-}
-
-fn is_unknown(file: &[u8], entry: u32) -> bool
-    ensures { Decides result (Unknown file.now entry) }
-{
-    match section_at(file, entry) {
-        Some(_) => false,
-        None => true,
-    }
-}
-
-fn is_second(file: &[u8], letter: char, entry: u32) -> bool
-    ensures { Decides result (Second file.now letter entry) }
-{
-    letter_at(file, entry) == letter
-        && any_bad(&Lettered {
-            file,
-            letter,
-            before: entry,
-        })
-}
-
-fn is_misplaced(file: &[u8], entry: u32) -> bool
-    ensures { Decides result (Misplaced file.now entry) }
-{
-    offset_at(file, entry) != due_at(file, entry)
-}
-
-fn is_overrun(file: &[u8], entry: u32) -> bool
-    ensures { Decides result (Overrun file.now entry) }
-{
-    file.len() < end_at(file, entry) as usize
 }
 
 // All entries, each against what makes one bad.
@@ -77,10 +47,10 @@ impl Test for Entries<'_> {
     }
 
     fn fails(&self, place: u32) -> bool {
-        is_unknown(self.file, place)
-            || is_second(self.file, 'R', place)
-            || is_second(self.file, 'C', place)
-            || is_misplaced(self.file, place)
-            || is_overrun(self.file, place)
+        let entry = Entry {
+            file: self.file,
+            number: place,
+        };
+        entry.is_bad()
     }
 }

@@ -1,22 +1,22 @@
 // Reads a file, and hands out its sections.
-ghost use Rattle.std.specs.Prelude.{◌≡◌, ℕ, ◌<◌, ◌⊎◌, [], length, IfOk, Err, Decides, MatchOption};
-ghost use Rattle.first.specs.First.{Only};
+ghost use Rattle.std.specs.Prelude.{◌≡◌, ℕ, ◌<◌, length, is_some, true, IfOk, Err, Decides, MatchOption};
+ghost use Rattle.refusal.specs.declared.Rule.TheVariants.{MapFile as MapFileRule};
+ghost use Rattle.first.specs.First.{Only, answer_of};
 ghost use Rattle.mapfile.specs.Files.{entry_count};
 ghost use Rattle.mapfile.specs.Rules.{routine_letter, claims_letter, Unreadable, Incomplete, Accepted, Allowed, InOrder, Without, Cut, Parted};
-ghost use Rattle.mapfile.specs.Sections.{file_of, SectionAt, There, TheBody, Single, answer_of};
+ghost use Rattle.mapfile.specs.Sections.{file_of, SectionAt, TheBody, Single};
 
-use crate::bytes::{body_at, due_at, entry_count};
 use crate::entries::{Entries, Lettered};
-use crate::section::{Section, section_at};
-use first::{Refusal, any_bad, first_bad, try_number};
+use crate::entry::{Entry, entry_count};
+use crate::map_file::MapFile;
+use crate::section::Section;
+use first::{any_bad, first_bad, try_rule};
+use refusal::{Refusal, Rule};
 
 // The most bytes of a file.
 pub const LONGEST: usize = 16_384;
 
 const MOST_ENTRIES: u32 = 16;
-
-// Every refusal of a file has this number.
-const BAD_FILE: u8 = 1;
 
 fn is_unreadable(file: &[u8]) -> bool
     ensures { Decides result (Unreadable file.now) }
@@ -29,11 +29,15 @@ fn is_incomplete(file: &[u8]) -> bool
     ensures { Decides result (Incomplete file.now) }
 {
     let count = entry_count(file);
+    let past = Entry {
+        file,
+        number: count,
+    };
     !any_bad(&Lettered {
         file,
         letter: 'R',
         before: count,
-    }) || (due_at(file, count) as usize) < file.len()
+    }) || (past.due() as usize) < file.len()
 }
 
 // The rules in order.
@@ -41,19 +45,13 @@ fn accept(file: &[u8]) -> Result<(), Refusal>
     ensures { InOrder file.now result }
 {
     if is_unreadable(file) {
-        return Err((BAD_FILE, entry_count(file)));
+        return Err((Rule::MapFile, entry_count(file)));
     }
-    try_number(BAD_FILE, &Entries { file })?;
+    try_rule(Rule::MapFile, &Entries { file })?;
     if is_incomplete(file) {
-        return Err((BAD_FILE, entry_count(file)));
+        return Err((Rule::MapFile, entry_count(file)));
     }
     Ok(())
-}
-
-// A file that was read. Only `read` makes one, and its contract says what was shown: the methods answer for any bytes, and say more where the rules hold.
-#[derive(Clone, Copy)]
-pub struct MapFile<'a> {
-    file: &'a [u8],
 }
 
 impl<'a> MapFile<'a> {
@@ -63,7 +61,7 @@ impl<'a> MapFile<'a> {
         ensures same { IfOk result (λ m. file_of m ≡ file.now) }
         ensures accepted { IfOk result (λ m. Accepted (file_of m)) }
         ensures parted { IfOk result (λ m. Parted (file_of m)) }
-        ensures cut { Cut file.now → answer_of result ≡ Err (1, 0) }
+        ensures cut { Cut file.now → answer_of result ≡ Err (MapFileRule, 0) }
     {
         accept(file)?;
         Ok(MapFile { file })
@@ -79,12 +77,22 @@ impl<'a> MapFile<'a> {
     // A part of the file, under its letter. Sections count from 0, in the file's order.
     pub fn section(&self, i: u32) -> Option<Section<'a>>
         ensures value { SectionAt (file_of self.now) i result }
-        ensures there { There (file_of self.now) i result }
+        ensures there { i < entry_count (file_of self.now) → is_some result ≡ true }
     {
         if i < self.section_count() {
-            section_at(self.file, i)
+            self.entry(i).section()
         } else {
             None
+        }
+    }
+
+    fn entry(&self, number: u32) -> Entry<'a>
+        ensures file { result.file.now ≡ file_of self.now }
+        ensures number { result.number ≡ number }
+    {
+        Entry {
+            file: self.file,
+            number,
         }
     }
 
@@ -98,18 +106,14 @@ impl<'a> MapFile<'a> {
             before: self.section_count(),
         };
         let entry = first_bad(&lettered)?;
-        Some(body_at(self.file, entry))
+        Some(self.entry(entry).body())
     }
 
     // The routine. No file that was read lacks one.
     pub fn routine(&self) -> &'a [u8]
-        ensures value { TheBody (file_of self.now) routine_letter result.now ⊎ (Without (file_of self.now) routine_letter × (result.now ≡ [])) }
-        ensures there { Accepted (file_of self.now) → TheBody (file_of self.now) routine_letter result.now }
+        ensures { TheBody (file_of self.now) routine_letter result.now }
     {
-        match self.body_under('R') {
-            Some(body) => body,
-            None => &[],
-        }
+        self.body_under('R').unwrap()
     }
 
     // The claims, if there are any.

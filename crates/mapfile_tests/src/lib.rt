@@ -5,7 +5,8 @@ ghost use Rattle.std.specs.Prelude.{◌≤◌};
 
 #[cfg(test)]
 mod tests {
-    use mapfile::{MapFile, Refusal, Section};
+    use mapfile::{MapFile, Section};
+    use refusal::numbered;
     use std::test::Fail;
 
     // A layout, the routine, a second layout and claims, behind a header of 21 bytes.
@@ -16,15 +17,15 @@ mod tests {
         ]
     }
 
-    fn refusal(file: &[u8]) -> Option<Refusal> {
+    fn refusal(file: &[u8]) -> Option<(u8, u32)> {
         match MapFile::read(file) {
             Ok(_) => None,
-            Err(refusal) => Some(refusal),
+            Err(refusal) => Some(numbered(refusal)),
         }
     }
 
     // The good file with another byte at a place.
-    fn patched(at: usize, byte: u8) -> Option<Refusal> {
+    fn patched(at: usize, byte: u8) -> Option<(u8, u32)> {
         let mut file = good();
         if at < file.len() {
             file[at] = byte;

@@ -1,6 +1,6 @@
 -- The bits of a number that is made bit by bit, the highest first. Assumes nothing.
 use Rattle.std.proofs.Common.{◌≡◌, ℕ, zero, suc, ◌+◌, ◌-◌, ◌*◌, ◌/◌, ◌%◌, ◌^◌, ◌<◌, ◌≤◌, Bool, true, false, cond, ◌&&◌, eqb, ltb, sym, ap, ◌∙◌, pow-suc, arith}
-use native.Mathlib.Nat.{pow-succ', zero-div, div-div-eq-div-mul, pow-le-pow_right}
+use native.Mathlib.Nat.{pow-succ', zero-div, div-div-eq-div-mul}
 use Rattle.std.proofs.lemmas.Bool.{le-ltb, lt-ltb}
 use Rattle.memory.specs.Links.{bit}
 
@@ -45,6 +45,3 @@ pub below_more : (n i m x : ℕ) → i < n → x < 2 → m < 2 ^ (n - (i + 1)) �
 below_more n i m x h l e =
     let s : n - i ≡ suc (n - (i + 1)) = omega arith in
     rw (s, pow-suc 2 (n - (i + 1))) (omega arith)
-
-pub below_all : (k : ℕ) → k ≤ 32 → 2 ^ k ≤ 4294967296
-below_all k h = let p : 2 ^ k ≤ 2 ^ 32 = pow-le-pow_right (omega arith) h in p

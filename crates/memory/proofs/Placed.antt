@@ -2,10 +2,12 @@
 use Rattle.std.proofs.Common.{◌≡◌, ℕ, zero, suc, ◌+◌, ◌-◌, ◌<◌, ◌≤◌, true, false, List, IfSome, Some, None, Ok, Err, Option, sym, refl, ap, ◌∙◌, subst, inl, inr, ⊎_elim, arith, MatchOption}
 use Rattle.std.proofs.lemmas.Bool.{cases_Bool, cases_eq}
 use Rattle.std.proofs.lemmas.Bool.Decides.{nat_tests}
+use Rattle.refusal.specs.declared.Rule.TheVariants.{FieldInside}
+use Rattle.refusal.specs.Refusals.{Answer, Refusal}
 use Rattle.store.specs.declared.tags.Cell.{Cell}
 use Rattle.store.specs.Cells.{Memory as Cells, among, cell_of, torn}
 use Rattle.store.specs.Objects.{Among}
-use Rattle.first.specs.First.{Answer, Granted, Nowhere, Numbered, Only, Somewhere}
+use Rattle.first.specs.First.{Granted, Nowhere, Ruled, Only, Somewhere}
 use Rattle.first.proofs.Firsts.{only_like}
 use Rattle.areas.specs.declared.area.Area.{Area}
 use Rattle.areas.specs.Area.{lawful}
@@ -22,7 +24,7 @@ use Rattle.memory.specs.Import.{Allowed, Left, Unhoused, cut, granted, kept, lai
 
 module _ (xs : List Area) (b : List ℕ) where
   -- a body that is refused as it is
-  pub answer_body : (e : ℕ × ℕ) → Only (GrantedBody b) (Err e) → Only (Allowed xs b) (Err e)
+  pub answer_body : (e : Refusal) → Only (GrantedBody b) (Err e) → Only (Allowed xs b) (Err e)
   answer_body e h = record { allows = wrong_body e h.allows; alone = alone }
     where
       no_such : ◌≡◌ {A = Answer} (Ok tt) (Err e) → ⊥
@@ -34,17 +36,17 @@ module _ (xs : List Area) (b : List ℕ) where
       alone _ (granted g f) = absurd (no_such (h.alone (Ok tt) g))
 
   -- a body that is not, by its fields' areas
-  pub answer-areas : (n : ℕ) → n ≡ count_of b → Only (GrantedBody b) (Ok tt) → (a : Answer) → Only (Numbered 27 (Unhoused xs b) n Granted) a → Only (Allowed xs b) a
-  answer-areas n e g a h = only_like to from a (subst (λ n. Only (Numbered 27 (Unhoused xs b) n Granted) a) e h)
+  pub answer-areas : (n : ℕ) → n ≡ count_of b → Only (GrantedBody b) (Ok tt) → (a : Answer) → Only (Ruled FieldInside (Unhoused xs b) n Granted) a → Only (Allowed xs b) a
+  answer-areas n e g a h = only_like to from a (subst (λ n. Only (Ruled FieldInside (Unhoused xs b) n Granted) a) e h)
     where
-      no_such : (d : ℕ × ℕ) → ◌≡◌ {A = Answer} (Err d) (Ok tt) → ⊥
+      no_such : (d : Refusal) → ◌≡◌ {A = Answer} (Err d) (Ok tt) → ⊥
       no_such d p = let z : ◌≡◌ {A = ℕ} 0 1 = cc in omega arith
 
-      to : (a : Answer) → Numbered 27 (Unhoused xs b) (count_of b) Granted a → Allowed xs b a
+      to : (a : Answer) → Ruled FieldInside (Unhoused xs b) (count_of b) Granted a → Allowed xs b a
       to _ (inl (k, f, e)) = subst (Allowed xs b) (sym e) (no_area k g.allows f)
       to _ (inr (f, e)) = subst (Allowed xs b) (sym e) (granted g.allows f)
 
-      from : (a : Answer) → Allowed xs b a → Numbered 27 (Unhoused xs b) (count_of b) Granted a
+      from : (a : Answer) → Allowed xs b a → Ruled FieldInside (Unhoused xs b) (count_of b) Granted a
       from _ (wrong_body d x) = absurd (no_such d (g.alone (Err d) x))
       from _ (no_area k x f) = inl (k, f, refl)
       from _ (granted x f) = inr (f, refl)

@@ -1,12 +1,13 @@
 -- Every memory that calls can make is tied. Assumes nothing.
 use Rattle.std.proofs.Common.{◌≡◌, ℕ, zero, suc, ◌-◌, Bool, true, false, cond, not, List, Some, None, Ok, Err, Option, sym, refl, ap, ◌∙◌, subst, ⊎_elim, arith, MatchOption}
 use Rattle.std.proofs.lemmas.Bool.{and_parts, and_from, cases_Bool, cond_both}
+use Rattle.refusal.specs.Refusals.{Answer}
 use Rattle.store.specs.declared.tags.Kind.{Kind}
 use Rattle.store.specs.declared.tags.Kind.TheVariants.{Unallocated, Uninitialized}
 use Rattle.store.specs.Cells.{Memory as Cells, kind_of, number_of, single, sized, sound, fresh, among, touched, torn, placed, put, refused}
 use Rattle.store.proofs.Numbers.{single-size}
 use Rattle.store.proofs.Placings.{granted as placing_granted, sound-placed}
-use Rattle.first.specs.First.{Answer, Nowhere}
+use Rattle.first.specs.First.{Nowhere}
 use Rattle.areas.specs.declared.area.Area.{Area}
 use Rattle.areas.specs.Area.{begins, lawful}
 use Rattle.areas.specs.Ordered.{found, ordered}

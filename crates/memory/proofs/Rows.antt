@@ -1,9 +1,10 @@
 -- One more byte of a row, and of a number. Assumes nothing.
-use Rattle.std.proofs.Common.{◌≡◌, ℕ, suc, ◌+◌, ◌-◌, ◌*◌, ◌/◌, ◌^◌, ◌<◌, ◌≤◌, true, cond, ◌≢◌, List, length, set, replicate, sym, refl, ap, ◌∙◌, ⊎_elim, pow-suc, add-one, arith, get_or-set_other, get_or-set_same}
+use Rattle.std.proofs.Common.{◌≡◌, ℕ, suc, ◌+◌, ◌-◌, ◌*◌, ◌/◌, ◌^◌, ◌<◌, ◌≤◌, true, false, cond, ◌≢◌, ◌⊎◌, inl, inr, List, ◌++◌, length, take, drop, set, replicate, sym, ap, ◌∙◌, ⊎_elim, pow-suc, add-one, arith, get_or-set_other, get_or-set_same}
 use mathlib.Core.Path.{fun_ext}
 use native.Mathlib.Nat.{div-div-eq-div-mul, pow-le-pow_right}
 use lib.ListN.{get_or-replicate, length-replicate}
-use Rattle.std.proofs.lemmas.List.{get_or_past}
+use borrow.Rule.Slice.PartMut.{put_mid}
+use Rattle.std.proofs.lemmas.List.{get_or_past, get_or_append_left, get_or-append_right, get_or-take, get_or-drop, length-take-le}
 use Rattle.std.proofs.lemmas.Bool.Decides.{nat_tests}
 use Rattle.std.proofs.lemmas.Bool.{cases_eq, cases_lt}
 use Rattle.store.specs.Cells.{among}
@@ -25,8 +26,38 @@ laid_more xs a n v new old h e inv = fun_ext (λ i. ⊎_elim
     (λ (s : i ≢ a + n). rw (more_other a n i s) (get_or-set_other xs (a + n) i v 0 s ∙ ap (λ (f : Bytes). f i) inv))
     (cases_eq i (a + n)))
 
-pub cleared_more : (xs : List ℕ) (f : Bytes) (a n : ℕ) → a + n < length xs → held xs ≡ cleared f a n → held (set xs (a + n) 0) ≡ cleared f a (n + 1)
-cleared_more xs f a n h e = laid_more xs a n 0 zeros f h refl e
+-- a part of a row that was filled with zeros
+pub cleared_part : (xs ys : List ℕ) (a n : ℕ) → a + n ≤ length xs → ys ≡ replicate n 0 → held (put_mid a n xs ys) ≡ cleared (held xs) a n
+cleared_part xs ys a n l e = fun_ext (λ i. ⊎_elim
+    (λ (h : i < a). rw (not_among a n i (inl h))
+    (get_or_append_left (take a xs) (ys ++ drop n (drop a xs)) 0 i (omega (arith, front)) ∙ get_or-take a xs i 0 h))
+    (λ (h : a ≤ i). ⊎_elim
+    (λ (g : i < a + n). rw (is_among a n i h g)
+    (get_or-append_right (take a xs) (ys ++ drop n (drop a xs)) a i 0 front h
+    ∙ get_or_append_left ys (drop n (drop a xs)) 0 (i - a) (omega (arith, long)) ∙ ap (λ zs. held zs (i - a)) e ∙ get_or-replicate n (i - a) 0 0 (omega arith)))
+    (λ (g : a + n ≤ i). rw (not_among a n i (inr g))
+    (get_or-append_right (take a xs) (ys ++ drop n (drop a xs)) a i 0 front h
+    ∙ get_or-append_right ys (drop n (drop a xs)) n (i - a) 0 long (omega arith)
+    ∙ get_or-drop n (drop a xs) (i - a - n) 0 ∙ get_or-drop a xs (n + (i - a - n)) 0
+    ∙ ap (held xs) (back i g)))
+    (cases_lt i (a + n)))
+    (cases_lt i a))
+  where
+    front : length (take a xs) ≡ a
+    front = length-take-le a xs (omega arith)
+
+    long : length ys ≡ n
+    long = ap length e ∙ length-replicate {A = ℕ} n 0
+
+    back : (i : ℕ) → a + n ≤ i → a + (n + (i - a - n)) ≡ i
+    back i g = omega arith
+
+    is_among : (a n i : ℕ) → a ≤ i → i < a + n → among a n i ≡ true
+    is_among a n i h g = grind (arith, nat_tests)
+
+    not_among : (a n i : ℕ) → (i < a) ⊎ (a + n ≤ i) → among a n i ≡ false
+    not_among a n i (inl h) = grind (arith, nat_tests)
+    not_among a n i (inr h) = grind (arith, nat_tests)
 
 pub written_more : (xs : List ℕ) (f : Bytes) (a v n b : ℕ) → a + n < length xs → b ≡ byte_of v n → held xs ≡ written f a v n → held (set xs (a + n) b) ≡ written f a v (n + 1)
 written_more xs f a v n b h e inv =

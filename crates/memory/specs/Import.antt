@@ -1,8 +1,10 @@
 -- The import of a packed record into a memory.
 use Rattle.std.specs.Prelude.{◌≡◌, ℕ, zero, suc, ◌-◌, ◌<◌, false, List, Some, None, Ok, Err, Option, MatchOption}
+use Rattle.refusal.specs.declared.Rule.TheVariants.{FieldInside}
+use Rattle.refusal.specs.Refusals.{Answer, Refusal}
 use Rattle.store.specs.declared.tags.Cell.{Cell}
 use Rattle.store.specs.Cells.{Memory as Cells, cell_of, torn}
-use Rattle.first.specs.First.{Answer, FirstAt, Nowhere, Somewhere}
+use Rattle.first.specs.First.{FirstAt, Nowhere, Somewhere}
 use Rattle.areas.specs.declared.area.Area.{Area}
 use Rattle.areas.specs.Area.{lawful}
 use Rattle.areas.specs.Calls.{left}
@@ -19,8 +21,8 @@ Unhoused xs b k = MatchOption (field_at b k) ⊥ (λ f. lawful xs f.address f.sc
 
 -- What the rules allow: first a body is refused as it is wherever it is imported, by 8, 9 or 10. Then 27 is tried over all its fields.
 pub data Allowed (xs : List Area) (b : List ℕ) : Answer → Type 0 where
-  wrong_body : (e : ℕ × ℕ) → GrantedBody b (Err e) → Allowed xs b (Err e)
-  no_area : (k : ℕ) → GrantedBody b (Ok tt) → FirstAt (Unhoused xs b) (count_of b) k → Allowed xs b (Err (27, k))
+  wrong_body : (e : Refusal) → GrantedBody b (Err e) → Allowed xs b (Err e)
+  no_area : (k : ℕ) → GrantedBody b (Ok tt) → FirstAt (Unhoused xs b) (count_of b) k → Allowed xs b (Err (FieldInside, k))
   granted : GrantedBody b (Ok tt) → Nowhere (Unhoused xs b) (count_of b) → Allowed xs b (Ok tt)
 
 -- the bytes once the first n fields hold their reset values

@@ -1,6 +1,8 @@
 -- Which areas lead to which.
 use Rattle.std.specs.Prelude.{◌≡◌, ℕ, ◌+◌, ◌/◌, ◌%◌, ◌^◌, ◌<◌, ◌≤◌, Bool, cond, ◌&&◌, ◌⊎◌, Some, None, Ok, Err, Decides, Option, Result, ◌==◌, nat_lt}
 use Rattle.std.specs.List.{slice_get}
+use Rattle.refusal.specs.declared.Rule.TheVariants.{Marks as MarksRule, AreaOpen}
+use Rattle.refusal.specs.Refusals.{Refusal}
 use Rattle.store.specs.declared.tags.Kind.TheVariants.{Pointer}
 use Rattle.store.specs.declared.tags.Cell.{Cell}
 use Rattle.store.specs.Cells.{Memory as Cells, number_of}
@@ -34,9 +36,9 @@ unfoldable pub bit : ℕ → ℕ → Bool
 bit w j = w / 2 ^ j % 2 == 1
 
 -- The answer to which areas the one at a leads to, with n marks.
-pub data Reach (s : State) (a n : ℕ) : Result ℕ (ℕ × ℕ) → Type 0 where
-  few_marks : n < 256 → Reach s a n (Err (14, 0))
-  no_area : 256 ≤ n → index_of (begins a) s.areas ≡ None → Reach s a n (Err (26, 0))
+pub data Reach (s : State) (a n : ℕ) : Result ℕ Refusal → Type 0 where
+  few_marks : n < 256 → Reach s a n (Err (MarksRule, 0))
+  no_area : 256 ≤ n → index_of (begins a) s.areas ≡ None → Reach s a n (Err (AreaOpen, 0))
   reached : (i w : ℕ) → 256 ≤ n → index_of (begins a) s.areas ≡ Some i → ((j : ℕ) → Decides (bit w j) (Reaches s i j)) → Reach s a n (Ok w)
 
 -- The graph that is searched: its slots are proved to lead where the areas do.

@@ -1,5 +1,6 @@
 -- What the calls of a memory answer and leave.
 use Rattle.std.specs.Prelude.{ℕ, Bool, cond, ◌&&◌, List, Some, None, Ok, Err, Option, nat_le}
+use Rattle.refusal.specs.declared.Rule.TheVariants.{AreaOpen}
 use Rattle.store.specs.declared.tags.Kind.{Kind}
 use Rattle.store.specs.declared.tags.Kind.TheVariants.{Unallocated, Uninitialized}
 use Rattle.store.specs.Cells.{number_of, placed, put}
@@ -25,7 +26,7 @@ shuts s x = state_of (cleared s.bytes x.start x.length) (placed s.cells x.start 
 -- granted, or refused by 26
 abbrev pub shut_answer : Option Area → Answer (Unit {0})
 shut_answer (Some x) = Ok tt
-shut_answer None = Err (26, 0)
+shut_answer None = Err (AreaOpen, 0)
 
 abbrev pub shut_found : State → Option Area → State
 shut_found s (Some x) = shuts s x

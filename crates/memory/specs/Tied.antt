@@ -1,10 +1,10 @@
 -- How bytes, cells and areas agree in every memory that calls can make.
 use Rattle.std.specs.Prelude.{◌≡◌, ℕ, ◌+◌, Bool, true, false, ◌&&◌, List, Some, ◌≢◌, nat_le}
+use Rattle.refusal.specs.Refusals.{Answer}
 use Rattle.store.specs.declared.tags.Kind.{Kind}
 use Rattle.store.specs.declared.tags.Kind.TheVariants.{Unallocated}
 use Rattle.store.specs.declared.tags.Cell.{Cell}
 use Rattle.store.specs.Cells.{among, unallocated}
-use Rattle.first.specs.First.{Answer}
 use Rattle.areas.specs.declared.area.Area.{Area}
 use Rattle.areas.specs.Area.{any, lawful}
 use Rattle.areas.specs.Ordered.{found}

@@ -12,21 +12,14 @@ pub(crate) fn unwritten() -> u8
     0
 }
 
-fn clear(bytes: &mut [u8], at: usize, count: usize)
-    requires { at + count ≤ length bytes.old }
-    ensures { held bytes.new ≡ cleared (held bytes.old) at count }
-{
-    for i in 0..count {
-        bytes[at + i] = 0;
-    }
-}
-
 // Zeroes the bytes of an area.
 pub(crate) fn wipe(bytes: &mut [u8], area: Area)
     requires { area.start + area.length ≤ length bytes.old }
     ensures { held bytes.new ≡ cleared (held bytes.old) area.start area.length }
 {
-    clear(bytes, area.start as usize, area.length as usize);
+    let start = area.start as usize;
+    let end = start + area.length as usize;
+    bytes[start..end].fill(0);
 }
 
 fn low_byte(value: u32) -> u8
@@ -39,6 +32,7 @@ pub(crate) fn write(bytes: &mut [u8], at: usize, value: u32, size: u8)
     requires { at + size ≤ length bytes.old }
     ensures { held bytes.new ≡ written (held bytes.old) at value size }
 {
+    // By index: a copy of `to_le_bytes` would serve four bytes at most, and this promises any `size`.
     let mut rest = value;
     for i in 0..size {
         bytes[at + i as usize] = low_byte(rest);
@@ -52,6 +46,7 @@ pub(crate) fn read(bytes: &[u8], at: usize, size: u8) -> u32
     requires few { size ≤ widest }
     ensures { result ≡ value_at (held bytes.now) at size }
 {
+    // By index: in a fold the closure would have to know that each sum fits, which the invariant says here.
     let mut value = 0;
     for i in (0..size).rev() {
         value = value * 256 + bytes[at + i as usize] as u32;

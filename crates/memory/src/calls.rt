@@ -13,9 +13,11 @@ use crate::Memory;
 use crate::bytes::{read, unwritten, wipe, write};
 use areas::area::Area;
 use areas::areas::Areas;
+use refusal::Refusal;
 use store::halves::{Cells, Places};
+use store::placing::Placing;
 use store::reading::kind_read;
-use store::tags::{Kind, Refusal};
+use store::tags::Kind;
 
 // The most bytes that one access has.
 const WIDEST: u8 = 4;
@@ -38,8 +40,13 @@ fn cover<S: Places>(store: &mut S, at: u32, count: u32, kind: Kind)
     requires single { single kind ≡ true }
     ensures { S.Cells.cells store.new ≡ placed (S.Cells.cells store.old) at kind count }
 {
+    // A loop by address: each byte is a placing of its own, and after `for_each` a proof knows nothing of the store.
     for i in 0..count {
-        let _ = store.place(at + i, kind.number(), 1);
+        store.lay(Placing {
+            start: at + i,
+            kind,
+            size: 1,
+        });
     }
 }
 
@@ -108,7 +115,7 @@ impl<S: Places> Memory<S> {
             return false;
         }
         write(&mut self.bytes, address as usize, value, size);
-        let _ = self.store.place(address, kind.number(), size);
+        let _ = self.store.place(address, kind.into(), size);
         true
     }
 }

@@ -1,10 +1,9 @@
 // The import of packed records.
 ghost use Rattle.std.specs.Prelude.{◌≡◌, ◌+◌, ◌≤◌, length, IfSome, IfOk, OnOk};
-ghost use Rattle.first.specs.First.{Only};
+ghost use Rattle.first.specs.First.{Only, answer_of};
 ghost use Rattle.areas.specs.Calls.{opened};
-ghost use Rattle.layout.specs.Fields.{Reads};
+ghost use Rattle.layout.specs.Layouts.{Reads};
 ghost use Rattle.layout.specs.Placing.{Inside};
-ghost use Rattle.layout.specs.Rules.{answer_of};
 ghost use Rattle.memory.specs.Bytes.{held};
 ghost use Rattle.memory.specs.Import.{Allowed, Imported, Unhoused, after_import, laid_bytes, write_field};
 ghost use Rattle.memory.specs.State.{view};
@@ -13,13 +12,13 @@ ghost use Rattle.memory.specs.Tied.{Tied};
 use crate::Memory;
 use crate::bytes::write;
 use areas::areas::Areas;
-use first::{Test, try_number};
+use first::{Test, try_rule};
 use layout::field::Field;
 use layout::layout::Layout;
+use refusal::{Refusal, Rule};
 use store::halves::{Cells, Places};
-use store::tags::Refusal;
 
-// 27: the field does not lie in one open area.
+// A field does not lie in one open area. A struct, for the reason at `first::Test`.
 #[derive(Clone, Copy)]
 struct Homeless<'l, 'a> {
     layout: Layout<'l>,
@@ -36,6 +35,7 @@ impl Test for Homeless<'_, '_> {
     }
 
     fn fails(&self, place: u32) -> bool {
+        // Under `is_some_and` the check does not find what the closure decides.
         match self.layout.field(place) {
             Some(field) => !self.areas.lawful(field.address, field.scalar.size as u32),
             None => false,
@@ -49,13 +49,12 @@ fn check<'a>(areas: &Areas, body: &'a [u8]) -> Result<Layout<'a>, Refusal>
     ensures layout { IfOk result (Reads body.now) }
 {
     let layout = Layout::read(body)?;
-    try_number(27, &Homeless { layout, areas })?;
+    try_rule(Rule::FieldInside, &Homeless { layout, areas })?;
     Ok(layout)
 }
 
-fn write_field(bytes: &mut [u8], field: Option<Field>)
-    requires long { length bytes.old ≡ 4096 }
-    requires inside { IfSome field (λ f. f.address + f.scalar.size ≤ 4096) }
+fn write_field(bytes: &mut [u8; 4096], field: Option<Field>)
+    requires { IfSome field (λ f. f.address + f.scalar.size ≤ 4096) }
     ensures { held bytes.new ≡ write_field (held bytes.old) field }
 {
     if let Some(field) = field {
@@ -69,11 +68,11 @@ fn write_field(bytes: &mut [u8], field: Option<Field>)
 }
 
 // Writes each field's reset value.
-fn write_fields(bytes: &mut [u8], layout: &Layout<'_>)
-    requires long { length bytes.old ≡ 4096 }
-    requires inside { Inside layout.now.body.now layout.now.count }
+fn write_fields(bytes: &mut [u8; 4096], layout: &Layout<'_>)
+    requires { Inside layout.now.body.now layout.now.count }
     ensures { held bytes.new ≡ laid_bytes (held bytes.old) layout.now.body.now layout.now.count }
 {
+    // A loop: after `for_each` a proof knows nothing of what the closure changed.
     for k in 0..layout.field_count() {
         write_field(bytes, layout.field(k));
     }

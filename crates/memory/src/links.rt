@@ -7,6 +7,7 @@ mod graph;
 mod reaching;
 
 // What the graph is made of. It needs only the asking half of a store.
+// The bytes are a slice with `long` beside it, since the type is public: an array would ask more of whoever makes a view.
 #[derive(Drop)]
 pub struct Links<'a, C> {
     pub bytes: &'a [u8],

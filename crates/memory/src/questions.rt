@@ -9,18 +9,15 @@ ghost use Rattle.memory.specs.State.{view};
 use crate::Memory;
 use crate::links::Links;
 use areas::area::Area;
+use refusal::Refusal;
 use store::halves::Cells;
-use store::tags::{BYTES, Cell, Refusal};
+use store::tags::Cell;
 
 impl<C: Cells> Memory<C> {
     pub fn byte(&self, address: u32) -> Option<u8>
         ensures { result ≡ (if nat_lt address 4096 then Some ((view C.Cells.cells self.now).bytes address) else None) }
     {
-        if address < BYTES {
-            Some(self.bytes[address as usize])
-        } else {
-            None
-        }
+        self.bytes.get(address as usize).copied()
     }
 
     pub fn cell(&self, address: u32) -> Option<Cell>

@@ -7,15 +7,16 @@ mod tests {
     use flat::Flat;
     use memory::Memory;
     use mirror::Mirror;
+    use refusal::{Refusal, numbered};
     use std::process::Abort;
     use store::halves::{Cells, Places};
-    use store::tags::{Cell, Kind, Refusal};
+    use store::tags::{Cell, Kind};
 
     // 0 for granted, and the refusal otherwise.
-    fn answer(res: Result<(), Refusal>) -> Refusal {
+    fn answer(res: Result<(), Refusal>) -> (u8, u32) {
         match res {
             Ok(()) => (0, 0),
-            Err(refusal) => refusal,
+            Err(refusal) => numbered(refusal),
         }
     }
 
@@ -181,7 +182,7 @@ mod tests {
         assert_eq!(rt; memory.load(4092, 4), Some((9, Kind::Integral)));
     }
 
-    fn check_import(rt: &impl Abort, body: &[u8], expected: Refusal) {
+    fn check_import(rt: &impl Abort, body: &[u8], expected: (u8, u32)) {
         let mut memory = neighbours(rt);
         assert_eq!(rt; answer(memory.import(body)), expected);
     }
@@ -205,12 +206,7 @@ mod tests {
     }
 
     fn all_zero(marks: &[u8]) -> bool {
-        for mark in marks {
-            if *mark != 0 {
-                return false;
-            }
-        }
-        true
+        marks.iter().all(|mark| *mark == 0)
     }
 
     // Compares what reach answers from each start, with marks that it must clear.
@@ -219,7 +215,7 @@ mod tests {
             let mut marks = [7; 256];
             let answer = match memory.reach(*start, &mut marks) {
                 Ok(bits) => (0, bits),
-                Err(refusal) => refusal,
+                Err(refusal) => numbered(refusal),
             };
             assert_eq!(rt; answer, (*number, *expected));
             assert!(rt; all_zero(&marks));
@@ -255,7 +251,10 @@ mod tests {
     fn check_few(rt: &impl Abort, start: u32) {
         let memory = neighbours(rt);
         let mut marks = [7; 255];
-        assert_eq!(rt; memory.reach(start, &mut marks), Err((14, 0)));
+        assert_eq!(rt;
+            memory.reach(start, &mut marks).map_err(numbered),
+            Err((14, 0))
+        );
         assert!(rt; all_zero(&marks));
     }
 

@@ -1,2 +1,4 @@
 pub mod Powers
 pub mod Decoding
+pub mod Halves
+pub mod Laying

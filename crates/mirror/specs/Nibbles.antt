@@ -22,6 +22,9 @@ mirrored m i = nibble_of (m (2 * i)) + 16 * nibble_of (m (2 * i + 1))
 abbrev pub byte_answer : Memory → ℕ → Option ℕ
 byte_answer m i = cond (nat_lt i 2048) (Some (mirrored m i)) None
 
+abbrev pub nibble_answer : Memory → ℕ → Option ℕ
+nibble_answer m a = cond (nat_lt a 4096) (Some (nibble_of (m a))) None
+
 -- the nibble of each address, in a row of bytes
 abbrev pub nibbles : List ℕ → ℕ → ℕ
 nibbles bytes i = cond (i % 2 == 0) (slice_index bytes (i / 2) % 16) (slice_index bytes (i / 2) / 16)

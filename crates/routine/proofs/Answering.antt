@@ -1,7 +1,9 @@
 -- A body has one answer that the rules allow, and one list of steps. Assumes nothing.
 use Rattle.std.proofs.Common.{◌≡◌, ℕ, suc, ◌+◌, ◌*◌, ◌<◌, List, [], ◌∷◌, ◌++◌, length, take, drop, Err, sym, refl, ap, ◌∙◌, subst, inl, inr, arith, length-drop, take-append-drop}
 use Rattle.std.proofs.lemmas.List.{same_lists, get_or_default, drop-drop}
-use Rattle.first.specs.First.{Nowhere, FirstAt, Only, Answer, Granted, Numbered}
+use Rattle.refusal.specs.declared.Rule.TheVariants.{RoutineLength, StepForm}
+use Rattle.refusal.specs.Refusals.{Answer, Refusal}
+use Rattle.first.specs.First.{Nowhere, FirstAt, Only, Granted, Ruled}
 use Rattle.first.proofs.Firsts.{first_one, only_like}
 use Rattle.steps.specs.declared.step.Step.TheVariants.{Stop}
 use Rattle.steps.specs.Format.{encoded}
@@ -42,10 +44,10 @@ written_body b r w = parts_join r b (w.measured.2 ∙ ap (λ n. 16 * n) (sym w.c
 -- ANSWERS
 
 module _ (b : List ℕ) where
-  pub answer-length : (Measured b → ⊥) → Only (Allowed b) (Err (2, 0))
+  pub answer-length : (Measured b → ⊥) → Only (Allowed b) (Err (RoutineLength, 0))
   answer-length h = record { allows = wrong_length h; alone = alone }
     where
-      alone : (a : Answer) → Allowed b a → a ≡ Err (2, 0)
+      alone : (a : Answer) → Allowed b a → a ≡ Err (RoutineLength, 0)
       alone _ (wrong_length _) = refl
       alone _ (malformed k m f) = absurd (h m)
       alone _ (set_twice r k w f) = absurd (h w.measured)
@@ -54,10 +56,10 @@ module _ (b : List ℕ) where
       alone _ (unset r k w t u s f) = absurd (h w.measured)
       alone _ (accepted r w t u s l) = absurd (h w.measured)
 
-  pub answer_form : Measured b → (n : ℕ) → n ≡ count_of b → (e : ℕ × ℕ) → Only (Numbered 3 (Malformed b) n Granted) (Err e) → Only (Allowed b) (Err e)
+  pub answer_form : Measured b → (n : ℕ) → n ≡ count_of b → (e : Refusal) → Only (Ruled StepForm (Malformed b) n Granted) (Err e) → Only (Allowed b) (Err e)
   answer_form m n is e o = from o.allows
     where
-      from : Numbered 3 (Malformed b) n Granted (Err e) → Only (Allowed b) (Err e)
+      from : Ruled StepForm (Malformed b) n Granted (Err e) → Only (Allowed b) (Err e)
       from (inr (h, g)) = let no_such : ◌≡◌ {A = ℕ} 0 1 = cc in absurd (omega arith)
       from (inl (k, f, d)) = subst (Only (Allowed b)) (sym d) (record { allows = malformed k m first; alone = alone })
         where
@@ -67,9 +69,9 @@ module _ (b : List ℕ) where
           formed : (r : Steps) → Written b r → ⊥
           formed r w = none-malformed b r w k first.below first.here
 
-          alone : (a : Answer) → Allowed b a → a ≡ Err (3, k)
+          alone : (a : Answer) → Allowed b a → a ≡ Err (StepForm, k)
           alone _ (wrong_length h) = absurd (h m)
-          alone _ (malformed j _ g) = ap (λ i. Err (3, i)) (first_one (Malformed b) (count_of b) j k g first)
+          alone _ (malformed j _ g) = ap (λ i. Err (StepForm, i)) (first_one (Malformed b) (count_of b) j k g first)
           alone _ (set_twice r _ w _) = absurd (formed r w)
           alone _ (unfit r _ w _ _) = absurd (formed r w)
           alone _ (astray r _ w _ _ _) = absurd (formed r w)

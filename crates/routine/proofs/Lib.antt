@@ -1,6 +1,7 @@
 pub mod Texts
 pub mod Walks
-pub mod Order
 pub mod Answering
 pub mod Sounding
 pub mod Judging
+pub mod Making
+pub mod Asking

@@ -82,6 +82,3 @@ module _ (r : Steps) (v k : ℕ) where
 
   pub to_unstopped : Unset r v k → Unstopped (Next r) sets_it_lem 0 k
   to_unstopped u = (u.0, λ x b. not-sets x (λ t. u.1 x t (inr b)))
-
-  pub unset-not : sets_it_lem 0 ≡ true → Unset r v k → ⊥
-  unset-not t u = u.1 0 ((decides_set v (sets (step_at r 0))).0 t) (inl refl)

@@ -1,5 +1,6 @@
 -- Bare paths, and the verdict on the claim that a check may be left out.
 use Rattle.std.specs.Prelude.{◌≡◌, ℕ, ◌≤◌, Bool, true, false, cond, ◌||◌, Some, None, Ok, Err, Option, Result, ◌==◌, ◌≢◌}
+use Rattle.refusal.specs.Refusals.{Refusal}
 use Rattle.first.specs.First.{Only}
 use Rattle.search.specs.Marks.{Few}
 use Rattle.search.specs.Paths.{Unstopped}
@@ -43,6 +44,6 @@ pub data Judged (r : Steps) (j o : ℕ) : Verdict → Type 0 where
   bare_path : (v : ℕ) → checked_at r j o ≡ Some v → Bare r j o v → Judged r j o BarePath
 
 -- The answer to a claim, with n marks for the search: one verdict is right, and there are enough marks, or they are too few and that is said.
-abbrev pub Answers : Steps → ℕ → ℕ → ℕ → Result Verdict (ℕ × ℕ) → Type 0
+abbrev pub Answers : Steps → ℕ → ℕ → ℕ → Result Verdict Refusal → Type 0
 Answers r j o n (Ok v) = (256 ≤ n) × Only (Judged r j o) v
 Answers r j o n (Err e) = Few n e

@@ -1,7 +1,9 @@
 -- What makes a step bad, number by number, the answers that the rules allow, and what an accepted routine has.
-use Rattle.std.specs.Prelude.{◌≡◌, ℕ, ◌+◌, ◌<◌, ◌≤◌, true, false, ◌⊎◌, List, length, IsSomeAnd, Some, Ok, Err, Result}
+use Rattle.std.specs.Prelude.{◌≡◌, ℕ, ◌+◌, ◌<◌, ◌≤◌, true, false, ◌⊎◌, List, length, IsSomeAnd, Some, Ok, Err}
+use Rattle.refusal.specs.declared.Rule.TheVariants.{RoutineLength, StepForm, SetOnce, OperandType, Target, SetBefore}
+use Rattle.refusal.specs.Refusals.{Answer}
 use Rattle.store.specs.declared.scalars.Scalar.{Scalar}
-use Rattle.first.specs.First.{Nowhere, Somewhere, FirstAt, Answer, Granted, Numbered}
+use Rattle.first.specs.First.{Nowhere, Somewhere, FirstAt, Granted, Ruled}
 use Rattle.steps.specs.declared.step.Step.{Step}
 use Rattle.steps.specs.declared.step.Takes.{Takes}
 use Rattle.steps.specs.Types.{accepts}
@@ -42,24 +44,19 @@ UnsetOperand r k = Either (λ u. (k ≡ 0) ⊎ Unset r u.0 k) (uses (step_at r k
 
 -- Each number is tried over all steps before the next, and the first bad step is named. From 4 on the body is that of the steps r.
 pub data Allowed (b : List ℕ) : Answer → Type 0 where
-  wrong_length : (Measured b → ⊥) → Allowed b (Err (2, 0))
-  malformed : (k : ℕ) → Measured b → FirstAt (Malformed b) (count_of b) k → Allowed b (Err (3, k))
-  set_twice : (r : Steps) (k : ℕ) → Written b r → FirstAt (SetTwice r) (length r) k → Allowed b (Err (4, k))
-  unfit : (r : Steps) (k : ℕ) → Written b r → Nowhere (SetTwice r) (length r) → FirstAt (UnfitOperand r) (length r) k → Allowed b (Err (5, k))
-  astray : (r : Steps) (k : ℕ) → Written b r → Nowhere (SetTwice r) (length r) → Nowhere (UnfitOperand r) (length r) → FirstAt (Astray r) (length r) k → Allowed b (Err (6, k))
-  unset : (r : Steps) (k : ℕ) → Written b r → Nowhere (SetTwice r) (length r) → Nowhere (UnfitOperand r) (length r) → Nowhere (Astray r) (length r) → FirstAt (UnsetOperand r) (length r) k → Allowed b (Err (7, k))
+  wrong_length : (Measured b → ⊥) → Allowed b (Err (RoutineLength, 0))
+  malformed : (k : ℕ) → Measured b → FirstAt (Malformed b) (count_of b) k → Allowed b (Err (StepForm, k))
+  set_twice : (r : Steps) (k : ℕ) → Written b r → FirstAt (SetTwice r) (length r) k → Allowed b (Err (SetOnce, k))
+  unfit : (r : Steps) (k : ℕ) → Written b r → Nowhere (SetTwice r) (length r) → FirstAt (UnfitOperand r) (length r) k → Allowed b (Err (OperandType, k))
+  astray : (r : Steps) (k : ℕ) → Written b r → Nowhere (SetTwice r) (length r) → Nowhere (UnfitOperand r) (length r) → FirstAt (Astray r) (length r) k → Allowed b (Err (Target, k))
+  unset : (r : Steps) (k : ℕ) → Written b r → Nowhere (SetTwice r) (length r) → Nowhere (UnfitOperand r) (length r) → Nowhere (Astray r) (length r) → FirstAt (UnsetOperand r) (length r) k → Allowed b (Err (SetBefore, k))
   accepted : (r : Steps) → Written b r → Nowhere (SetTwice r) (length r) → Nowhere (UnfitOperand r) (length r) → Nowhere (Astray r) (length r) → Nowhere (UnsetOperand r) (length r) → Allowed b (Ok tt)
 
 -- the numbers from 4 on, one after the other
 abbrev pub InOrder : Steps → Answer → Type 0
 InOrder r =
-    Numbered 4 (SetTwice r) (length r) (Numbered 5 (UnfitOperand r) (length r)
-    (Numbered 6 (Astray r) (length r) (Numbered 7 (UnsetOperand r) (length r) Granted)))
-
--- granted or refused, whatever it is that is granted
-abbrev pub answer_of : {A : Type 0} → Result A (ℕ × ℕ) → Answer
-answer_of (Ok x) = Ok tt
-answer_of (Err e) = Err e
+    Ruled SetOnce (SetTwice r) (length r) (Ruled OperandType (UnfitOperand r) (length r)
+    (Ruled Target (Astray r) (length r) (Ruled SetBefore (UnsetOperand r) (length r) Granted)))
 
 -- A value operand of step k is covered: one step sets it, to a type that it takes, and comes before the end of every path from step 0 to step k.
 pub record Covered (r : Steps) (k : ℕ) (u : ℕ × Takes) : Type 0 where

@@ -1,9 +1,9 @@
 // The next steps as a graph, and the steps that a path may be asked not to pass.
-ghost use Rattle.std.specs.Prelude.{◌≡◌, ◌≤◌};
-ghost use Rattle.steps.specs.Tables.{sets as set_by, checks as checks_of};
-ghost use Rattle.routine.specs.Flow.{step_at};
+ghost use Rattle.std.specs.Prelude.{◌≡◌, ◌≤◌, true, false, MatchBool, IfSome};
+ghost use Rattle.steps.specs.Tables.{sets as set_by};
+ghost use Rattle.routine.specs.Flow.{step_at, Either};
 ghost use Rattle.routine.specs.Graph.{two_slots, slot as slot_of, below, leads as leads_in, is_set};
-ghost use Rattle.routine.specs.Claims.{is_it, checks_it};
+ghost use Rattle.routine.specs.Claims.{checks_it};
 ghost use Rattle.routine.specs.Text.{text_of};
 
 use crate::text::Text;
@@ -21,10 +21,7 @@ fn node_below(next: Option<u32>, count: u32) -> Option<u8>
     requires { count ≤ 256 }
     ensures { result ≡ below count next }
 {
-    match next {
-        Some(step) => if step < count { Some(step as u8) } else { None },
-        None => None,
-    }
+    next.filter(|step| *step < count).map(|step| step as u8)
 }
 
 fn in_slot(nexts: (Option<u32>, Option<u32>), slot: u32) -> Option<u32>
@@ -48,39 +45,29 @@ impl Graph for Flow<'_> {
     }
 }
 
-fn is_set(value: u32, set: Option<(u8, Scalar)>) -> bool
-    ensures { result ≡ is_set value set }
-{
-    match set {
-        Some((own, _)) => own as u32 == value,
-        None => false,
-    }
-}
-
 pub(crate) fn sets_value(step: Step, value: u32) -> bool
     ensures { result ≡ is_set value (set_by step) }
 {
-    is_set(value, step.sets())
+    step.sets().is_some_and(|(own, _)| own as u32 == value)
 }
 
-pub(crate) fn is_it(value: u32, checked: Option<u32>) -> bool
-    ensures { result ≡ is_it value checked }
+// Whether one of two passes a test.
+pub(crate) fn either<T: Drop, F: Fn(T) -> bool>(pair: (Option<T>, Option<T>), test: F) -> bool
+    requires { F.IsAlwaysCallable test }
+    ensures { MatchBool result (Either (λ x. F.post test x true) pair) (IfSome pair.0 (λ x. F.post test x false) × IfSome pair.1 (λ x. F.post test x false)) }
 {
-    match checked {
-        Some(own) => own == value,
-        None => false,
-    }
+    pair.0.is_some_and(&test) || pair.1.is_some_and(&test)
 }
 
 // Whether the step checks the value, in A or in B.
 pub(crate) fn checks_value(step: Step, value: u32) -> bool
     ensures { result ≡ checks_it value step }
 {
-    let (a, b) = step.checks();
-    is_it(value, a) || is_it(value, b)
+    either(step.checks(), |own| own == value)
 }
 
 // The steps that set a value.
+// Not one struct with `Checkers` over a test: `stop` is a function, and of a closure only a relation is known; a trait for the test needs the same two impls.
 #[derive(Clone, Copy)]
 pub(crate) struct Setters<'a> {
     pub(crate) text: &'a Text,

@@ -1,6 +1,6 @@
-// What makes a step bad, a rule a number.
-ghost use Rattle.std.specs.Prelude.{◌≡◌, ◌+◌, ◌<◌, ◌≤◌, false, ◌⊎◌, length, IsSomeAnd, Decides};
-ghost use Rattle.first.specs.First.{Nowhere, Somewhere};
+// What makes a step bad, one test a rule. Each is a struct, for the reason at `first::Test`.
+ghost use Rattle.std.specs.Prelude.{◌≡◌, ◌+◌, ◌<◌, ◌≤◌, false, length, Decides};
+ghost use Rattle.first.specs.First.{Nowhere};
 ghost use Rattle.search.specs.Paths.{Edge, Unstopped};
 ghost use Rattle.steps.specs.Tables.{sets as set_by, targets as targets_of, terminator};
 ghost use Rattle.routine.specs.Flow.{step_at, Either, Sets};
@@ -8,10 +8,10 @@ ghost use Rattle.routine.specs.Graph.{two_slots, leads as leads_in, is_set, is_o
 ghost use Rattle.routine.specs.Rules.{Malformed, SetTwice, SetsOther, Unfit, UnfitOperand, Astray, Unset, UnsetOperand};
 ghost use Rattle.routine.specs.Text.{text_of};
 
-use crate::flow::{Flow, Setters, sets_value};
+use crate::flow::{Flow, Setters, either, sets_value};
 use crate::text::{Text, step_in};
 use first::{Test, any_bad};
-use search::Marks;
+use search::{follow_unstopped, is_marked};
 use steps::step::Takes;
 use store::scalars::Scalar;
 
@@ -32,10 +32,7 @@ impl Test for Malforms<'_> {
     }
 
     fn fails(&self, place: u32) -> bool {
-        match step_in(self.body, place) {
-            Some(_) => false,
-            None => true,
-        }
+        step_in(self.body, place as usize).is_none()
     }
 }
 
@@ -77,14 +74,13 @@ impl Test for SetsTwice<'_> {
     }
 
     fn fails(&self, place: u32) -> bool {
-        match self.text.step(place).sets() {
-            Some((value, _)) => any_bad(&Setting {
+        self.text.step(place).sets().is_some_and(|(value, _)| {
+            any_bad(&Setting {
                 text: self.text,
                 value: value as u32,
                 below: place,
-            }),
-            None => false,
-        }
+            })
+        })
     }
 }
 
@@ -98,10 +94,7 @@ struct SetsWrong<'a> {
 fn is_other(used: (u32, Takes), set: Option<(u8, Scalar)>) -> bool
     ensures { result ≡ is_other used set }
 {
-    match set {
-        Some((value, scalar)) => value as u32 == used.0 && !used.1.accepts(scalar),
-        None => false,
-    }
+    set.is_some_and(|(value, scalar)| value as u32 == used.0 && !used.1.accepts(scalar))
 }
 
 impl Test for SetsWrong<'_> {
@@ -134,15 +127,6 @@ fn is_unfit(text: &Text, used: (u32, Takes)) -> bool
     is_set_nowhere(text, used.0) || any_bad(&SetsWrong { text, used })
 }
 
-fn is_unfit_operand(text: &Text, operand: Option<(u32, Takes)>) -> bool
-    ensures { Decides result (IsSomeAnd operand (Unfit (text_of text.now))) }
-{
-    match operand {
-        Some(used) => is_unfit(text, used),
-        None => false,
-    }
-}
-
 // 5: a value operand is never set, or is of another type.
 #[derive(Clone, Copy)]
 pub(crate) struct Unfits<'a> {
@@ -159,25 +143,18 @@ impl Test for Unfits<'_> {
     }
 
     fn fails(&self, place: u32) -> bool {
-        let uses = self.text.step(place).uses();
-        is_unfit_operand(self.text, uses.0) || is_unfit_operand(self.text, uses.1)
-    }
-}
-
-fn is_past(count: u32, target: Option<u16>) -> bool
-    ensures { Decides result (IsSomeAnd target (λ j. count ≤ j)) }
-{
-    match target {
-        Some(step) => count <= step as u32,
-        None => false,
+        either(
+            self.text.step(place).uses(),
+            |used| is_unfit(self.text, used),
+        )
     }
 }
 
 fn has_target_past(text: &Text, place: u32) -> bool
     ensures { Decides result (Either (λ j. length (text_of text.now) ≤ j) (targets_of (step_at (text_of text.now) place))) }
 {
-    let targets = text.step(place).targets();
-    is_past(text.len(), targets.0) || is_past(text.len(), targets.1)
+    let count = text.len();
+    either(text.step(place).targets(), |step| count <= step as u32)
 }
 
 fn is_open_end(text: &Text, place: u32) -> bool
@@ -207,43 +184,20 @@ impl Test for Strays<'_> {
 }
 
 // Whether a path leads from step 0 to step `to` with no step between them that sets the value.
-fn reaches_unset(text: &Text, value: u32, to: u8, marks: &mut [u8]) -> bool
-    requires { 256 ≤ length marks.old }
+fn reaches_unset(text: &Text, value: u32, to: u8) -> bool
     ensures { Decides result (Unstopped (Edge two_slots (leads_in (text_of text.now))) (λ i. is_set value (set_by (step_at (text_of text.now) i))) 0 to) }
 {
-    let mut guard = Marks::over(marks);
-    match guard.follow_unstopped(&Flow { text }, &Setters { text, value }, 0) {
-        Ok(()) => guard.is_marked(to),
-        Err(_) => false,
-    }
+    let mut marks = [0; 256];
+    follow_unstopped(&Flow { text }, &Setters { text, value }, 0, &mut marks);
+    is_marked(&marks, to)
 }
 
 // Whether a path leads from step 0 to step `to` with the setting of the value nowhere before its end.
 // Step 0 is before the end, and the search does not count it.
-fn is_unset_in(text: &Text, value: u32, to: u8, marks: &mut [u8]) -> bool
-    requires { 256 ≤ length marks.old }
-    ensures { Decides result (Unset (text_of text.now) value to) }
-{
-    if sets_value(text.step(0), value) {
-        return false;
-    }
-    reaches_unset(text, value, to, marks)
-}
-
 fn is_unset(text: &Text, value: u32, to: u8) -> bool
     ensures { Decides result (Unset (text_of text.now) value to) }
 {
-    let mut marks = [0; 256];
-    is_unset_in(text, value, to, &mut marks)
-}
-
-fn is_unset_operand(text: &Text, operand: Option<(u32, Takes)>, place: u8) -> bool
-    ensures { Decides result (IsSomeAnd operand (λ u. (place ≡ 0) ⊎ Unset (text_of text.now) u.0 place)) }
-{
-    match operand {
-        Some((value, _)) => place == 0 || is_unset(text, value, place),
-        None => false,
-    }
+    !sets_value(text.step(0), value) && reaches_unset(text, value, to)
 }
 
 // 7: a value operand stands at step 0, or can be used before it is set.
@@ -265,8 +219,10 @@ impl Test for Lacks<'_> {
         if place >= self.text.len() {
             return false;
         }
-        let uses = self.text.step(place).uses();
-        let place = place as u8;
-        is_unset_operand(self.text, uses.0, place) || is_unset_operand(self.text, uses.1, place)
+        let to = place as u8;
+        either(
+            self.text.step(place).uses(),
+            |(value, _)| to == 0 || is_unset(self.text, value, to),
+        )
     }
 }

@@ -13,10 +13,11 @@ pub enum Verdict {
     BarePath = 3,
 }
 
-impl Verdict {
-    pub fn number(self) -> u8
-        ensures { result ≡ number_of self }
-    {
-        self as u8
+// The number of a verdict.
+impl From<Verdict> for u8 {
+    ghost from_gives = { λ verdict n. n ≡ number_of verdict };
+
+    fn from(verdict: Verdict) -> u8 {
+        verdict as u8
     }
 }

@@ -3,6 +3,7 @@
 
 #[cfg(test)]
 mod tests {
+    use refusal::numbered;
     use routine::Marks;
     use routine::routine::Routine;
     use std::alloc::{AllocError, Global};
@@ -96,7 +97,7 @@ mod tests {
     fn answer(body: &[u8]) -> (u8, u32) {
         match Routine::read(body) {
             Ok(routine) => (0, routine.step_count() as u32),
-            Err(refusal) => refusal,
+            Err(refusal) => numbered(refusal),
         }
     }
 
@@ -365,8 +366,8 @@ mod tests {
         let mut marks = [7u8; 256];
         let mut guard = Marks::over(&mut marks);
         match routine.verdict(step, operand, &mut guard) {
-            Ok(verdict) => verdict.number(),
-            Err((number, _)) => number,
+            Ok(verdict) => u8::from(verdict),
+            Err(refusal) => numbered(refusal).0,
         }
     }
 

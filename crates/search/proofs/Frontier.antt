@@ -36,21 +36,18 @@ marked : {m : ℕ} → m ≡ 1 → m ≡ 0 → ⊥
 marked e z = omega arith
 
 -- Before the first turn the start is queued, and nothing is marked.
-pub begun : (edge : ℕ → ℕ → Type 0) (n from : ℕ) (m qs : List ℕ) → from < n → 0 < length qs → Clear m → Frontier edge n from m (set qs 0 from) 0 1
-begun edge n from m qs h lq z =
+pub begun : (edge : ℕ → ℕ → Type 0) (n from : ℕ) (m qs : List ℕ) → from < n → get_or qs 0 0 ≡ from → Clear m → Frontier edge n from m qs 0 1
+begun edge n from m qs h at z =
     record {
       first = at;
       some = omega arith;
       order = omega arith;
-      queued = below_more (λ q. (get_or (set qs 0 from) q 0 ≡ from) ⊎ (get_or m (get_or (set qs 0 from) q 0) 0 ≡ 1)) 0 (λ q l. absurd (not-suc-le-zero l)) (inl at);
+      queued = below_more (λ q. (get_or qs q 0 ≡ from) ⊎ (get_or m (get_or qs q 0) 0 ≡ 1)) 0 (λ q l. absurd (not-suc-le-zero l)) (inl at);
       found = λ i nz. absurd (nz (z i));
       followed = λ q l. absurd (not-suc-le-zero l);
       room = omega (arith, count-all n, count_less (λ _. true) (fresh from m) from n h refl (taken from (z from)) (λ i ne. free i (z i) ne));
     }
   where
-    at : get_or (set qs 0 from) 0 0 ≡ from
-    at = get_or-set_same qs 0 from 0 lq
-
     taken : (i : ℕ) → get_or m i 0 ≡ 0 → (eqb (get_or m i 0) 0 && not (eqb i i)) ≡ false
     taken i e = grind (arith, nat_tests)
 
@@ -203,28 +200,25 @@ ended {edge = edge} {from = from} {m = m} {qs = qs} {tail = tail} f h =
     whole i (step d) = f.followed 0 (omega (arith, f.some)) i (subst (λ k. edge k i) (sym f.first) d)
     whole i (onward {j = j} p d) = closed j i (whole j p) d
 
--- The edges of the node at the head, in the slots below k, have been followed.
+-- The edges of the node before the head, in the slots below k, have been followed.
 pub record Following (slots : ℕ → ℕ) (leads : ℕ → ℕ → Option ℕ) (n from : ℕ) (marks queue : List ℕ) (head tail node k : ℕ) : Type 0 where
-  pub front : Frontier (Edge slots leads) n from marks queue head tail
-  pub left : head < tail
-  pub at : get_or queue head 0 ≡ node
+  pub turn : ℕ
+  pub next : head ≡ turn + 1
+  pub front : Frontier (Edge slots leads) n from marks queue turn tail
+  pub left : turn < tail
+  pub at : get_or queue turn 0 ≡ node
   pub done : (i : ℕ) → i < k → (j : ℕ) → leads node i ≡ Some j → get_or marks j 0 ≡ 1
-
--- the same state under other names
-pub same : {slots : ℕ → ℕ} {leads : ℕ → ℕ → Option ℕ} {n from : ℕ} {m m' qs qs' : List ℕ} {head tail tail' node k : ℕ} → m' ≡ m → qs' ≡ qs → tail' ≡ tail → Following slots leads n from m qs head tail node k → Following slots leads n from m' qs' head tail' node k
-same {slots = slots} {leads = leads} {n = n} {from = from} {m' = m'} {qs = qs} {qs' = qs'} {head = head} {tail = tail} {node = node} {k = k} a b c f =
-    subst (λ x. Following slots leads n from m' qs' head x node k) (sym c)
-    (subst (λ x. Following slots leads n from m' x head tail node k) (sym b)
-    (subst (λ x. Following slots leads n from x qs head tail node k) (sym a) f))
 
 module _ {slots : ℕ → ℕ} {leads : ℕ → ℕ → Option ℕ} {n from : ℕ} {m qs : List ℕ} {head tail node k : ℕ} (f : Following slots leads n from m qs head tail node k) where
   -- slot k leads to a node that had no mark
   pub slot_new : {qs' : List ℕ} {tail' : ℕ} → k < slots node → (j : ℕ) → leads node k ≡ Some j → j < n → j < length m → get_or m j 0 ≡ 0 → Grown n from m qs tail j qs' tail' → Following slots leads n from (set m j 1) qs' head tail' node (k + 1)
   slot_new ks j e h l z g =
       record {
+        turn = f.turn;
+        next = f.next;
         front = mark f.front f.left j (subst (λ x. Edge slots leads x j) (sym f.at) (k, ks, e)) h l z g;
         left = omega (arith, f.left, g.longer);
-        at = g.kept head f.left ∙ f.at;
+        at = g.kept f.turn f.left ∙ f.at;
         done = below_more (λ i. (j' : ℕ) → leads node i ≡ Some j' → get_or (set m j 1) j' 0 ≡ 1) k
             (λ i lt j' e'. mark_kept m j j' z (f.done i lt j' e'))
             (λ j' e'. let same : j' ≡ j = cc in subst (λ x. get_or (set m j 1) x 0 ≡ 1) (sym same) (get_or-set_same m j 1 0 l));
@@ -234,6 +228,8 @@ module _ {slots : ℕ → ℕ} {leads : ℕ → ℕ → Option ℕ} {n from : �
   pub slot_old : ((j : ℕ) → leads node k ≡ Some j → get_or m j 0 ≡ 0 → ⊥) → Following slots leads n from m qs head tail node (k + 1)
   slot_old had =
       record {
+        turn = f.turn;
+        next = f.next;
         front = f.front;
         left = f.left;
         at = f.at;
@@ -241,6 +237,7 @@ module _ {slots : ℕ → ℕ} {leads : ℕ → ℕ → Option ℕ} {n from : �
       }
 
   -- every slot has been looked at
-  pub slots_over : slots node ≤ k → Frontier (Edge slots leads) n from m qs (head + 1) tail
+  pub slots_over : slots node ≤ k → Frontier (Edge slots leads) n from m qs head tail
   slots_over h =
-      passed f.front f.left (λ j e. let e' = subst (λ x. Edge slots leads x j) f.at e in f.done e'.0 (omega (arith, e'.1)) j e'.2)
+      subst (λ x. Frontier (Edge slots leads) n from m qs x tail) (sym f.next)
+      (passed f.front f.left (λ j e. let e' = subst (λ x. Edge slots leads x j) f.at e in f.done e'.0 (omega (arith, e'.1)) j e'.2))

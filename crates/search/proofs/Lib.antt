@@ -2,3 +2,4 @@ pub mod Count
 pub mod Frontier
 pub mod Reading
 pub mod Stopping
+pub mod Filling

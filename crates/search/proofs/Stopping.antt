@@ -2,6 +2,7 @@
 use Rattle.std.proofs.Common.{◌≡◌, ℕ, Bool, true, false, cond, not, ◌&&◌, eqb, ◌⊎◌, List, Ok, Err, Option, Result, refl, ap, ◌∙◌, subst, inl, inr, ⊎_elim, arith}
 use Rattle.std.proofs.lemmas.Bool.Decides.{nat_tests}
 use Rattle.std.proofs.lemmas.Bool.{cases_eq, cases_Bool}
+use Rattle.refusal.specs.Refusals.{Refusal}
 use Rattle.search.specs.Paths.{Edge, Walk, step, onward, Between, Unstopped}
 use Rattle.search.specs.Stops.{open_slots}
 use Rattle.search.specs.Marks.{Reached, Searched}
@@ -48,6 +49,6 @@ module _ (slots : ℕ → ℕ) (leads : ℕ → ℕ → Option ℕ) (stop : ℕ 
         inside = λ i u. r.inside i (to_walk i u.0 u.1);
       }
 
-  pub searched : (n : ℕ) (marks : List ℕ) (r : Result (Unit {0}) (ℕ × ℕ)) → Searched (Walk (Edge (open_slots stop from slots) leads) from) n marks r → Searched (Unstopped (Edge slots leads) stop from) n marks r
+  pub searched : (n : ℕ) (marks : List ℕ) (r : Result (Unit {0}) Refusal) → Searched (Walk (Edge (open_slots stop from slots) leads) from) n marks r → Searched (Unstopped (Edge slots leads) stop from) n marks r
   searched n marks (Ok _) s = (s.0, unstopped s.1)
   searched n marks (Err e) s = s

@@ -1,5 +1,7 @@
 -- What marks, one for each node, say of a search, and what a search needs. Assumes nothing.
-use Rattle.std.specs.Prelude.{◌≡◌, ℕ, ◌<◌, ◌≤◌, Bool, not, List, Ok, Err, Decides, Result, ◌==◌, ◌≢◌, slice_index}
+use Rattle.std.specs.Prelude.{◌≡◌, ℕ, ◌<◌, ◌≤◌, Bool, not, List, ◌++◌, length, drop, Ok, Err, Decides, Result, MatchResult, ◌==◌, ◌≢◌, slice_index}
+use Rattle.refusal.specs.declared.Rule.TheVariants.{Marks as MarksRule}
+use Rattle.refusal.specs.Refusals.{Refusal}
 
 -- Every mark is zero.
 abbrev pub Clear : List ℕ → Type 0
@@ -19,20 +21,26 @@ pub record Reached (path : ℕ → Type 0) (marks : List ℕ) : Type 0 where
   pub inside : (i : ℕ) → path i → i < 256
 
 -- The refusal of n marks: fewer than the nodes, and no place to name.
-abbrev pub Few : ℕ → ℕ × ℕ → Type 0
-Few n e = (n < 256) × (e ≡ (14, 0))
+abbrev pub Few : ℕ → Refusal → Type 0
+Few n e = (n < 256) × (e ≡ (MarksRule, 0))
 
 -- Whether n marks are enough.
-abbrev pub Enough : ℕ → Result (Unit {0}) (ℕ × ℕ) → Type 0
+abbrev pub Enough : ℕ → Result (Unit {0}) Refusal → Type 0
 Enough n (Ok _) = 256 ≤ n
 Enough n (Err e) = Few n e
 
 -- A search over n marks. Refused, it leaves every mark zero.
-abbrev pub Searched : (ℕ → Type 0) → ℕ → List ℕ → Result (Unit {0}) (ℕ × ℕ) → Type 0
+abbrev pub Searched : (ℕ → Type 0) → ℕ → List ℕ → Result (Unit {0}) Refusal → Type 0
 Searched path n marks (Ok _) = (256 ≤ n) × Reached path marks
 Searched path n marks (Err e) = Few n e × Clear marks
 
+-- A loan of the first 256 of the marks: it gives what the call gave, and they are as the call left them. Refused, all are as they were.
+abbrev pub Lent : {R : Type 0} → (R → List ℕ → Type 0) → List ℕ → List ℕ → Result R Refusal → Type 0
+Lent call old new r = MatchResult r
+    (λ x. (256 ≤ length old) × ((left : List ℕ) × call x left × (new ≡ left ++ drop 256 old)))
+    (λ e. Few (length old) e × (new ≡ old))
+
 -- The answer to whether there is a path, found with n marks.
-abbrev pub Answered : Type 0 → ℕ → Result Bool (ℕ × ℕ) → Type 0
+abbrev pub Answered : Type 0 → ℕ → Result Bool Refusal → Type 0
 Answered path n (Ok b) = (256 ≤ n) × Decides b path
 Answered path n (Err e) = Few n e

@@ -1,19 +1,22 @@
 // Reachability over any graph of numbered nodes, in marks that the caller lends and gets back zeroed.
 #![tactic(auto)]
 
-ghost use Rattle.std.specs.Prelude.{◌≡◌, ℕ, ◌<◌, ◌≤◌, Bool, length, Option};
+ghost use Rattle.std.specs.Prelude.{◌≡◌, ℕ, ◌+◌, ◌<◌, ◌≤◌, Bool, length, take, Option, MatchOption, slice_index, slice_set};
+ghost use Rattle.std.specs.Fn.{FnOnceReturnsAtMut};
 ghost use Rattle.search.specs.Paths.{Edge, Walk, Unstopped};
 ghost use Rattle.search.specs.Stops.{open_slots};
-ghost use Rattle.search.specs.Marks.{Clear, marked, Reached, Enough, Searched, Answered};
+ghost use Rattle.search.specs.Marks.{Clear, marked, Reached, Enough, Lent, Searched, Answered};
 
-// A refusal: its number, and its place, 0 where none is named.
-pub type Refusal = (u8, u32);
+use refusal::{Refusal, Rule};
 
 // Fewer marks than nodes.
-const FEW_MARKS: Refusal = (14, 0);
+const FEW_MARKS: Refusal = (Rule::Marks, 0);
 
 // How many nodes there can be: a node is a `u8`.
 const NODES: usize = 256;
+
+// Marks that are enough for a search: one for each node.
+pub type NodeMarks = [u8; NODES];
 
 // A graph of numbered nodes. Each node has numbered slots, and a slot leads to a node or nowhere.
 pub trait Graph {
@@ -41,7 +44,8 @@ pub trait Stops {
 
 // A guard of the marks that a caller lends for searches. Its end zeroes every one of them,
 // whatever they held, however many there are, and whichever way leads out.
-// A search needs a guard, so none leaves marks behind. `named` says that the guard still holds the marks it was made over.
+// A search needs a guard, so none leaves marks behind. `named` says that the guard still holds the marks it was made over:
+// like `size`, it speaks of two states, so that no field of the guard could say it for all methods.
 pub struct Marks<'a> {
     all: &'a mut [u8],
 }
@@ -51,7 +55,7 @@ impl Drop for Marks<'_> {
         ensures { Clear self.exit.0.now }
     {
         let Marks { all } = self;
-        clear(all);
+        all.fill(0);
     }
 }
 
@@ -76,6 +80,17 @@ impl Marks<'_> {
         }
     }
 
+    // Lends one mark for each node to `f`, and gives back what it returns.
+    // Refused where there are fewer marks than nodes; then they are as they were.
+    pub fn lend<R, F: FnOnce(&mut NodeMarks) -> R>(&mut self, f: F) -> Result<R, Refusal>
+        requires { F.IsAlwaysCallable f }
+        ensures answer { Lent (FnOnceReturnsAtMut F.FnOnce f (take 256 self.old.all.now)) self.old.all.now self.new.all.now result }
+        ensures size { length self.new.all.now ≡ length self.old.all.now }
+        ensures named { self.new.all.ghost_name ≡ self.old.all.ghost_name }
+    {
+        lend(self.all, f)
+    }
+
     // Marks exactly the nodes to which a path leads from `from`, whatever the marks held.
     // Refused where there are fewer marks than nodes; then every mark is zero.
     pub fn follow<G: Graph>(&mut self, graph: &G, from: u8) -> Result<(), Refusal>
@@ -83,14 +98,12 @@ impl Marks<'_> {
         ensures size { length self.new.all.now ≡ length self.old.all.now }
         ensures named { self.new.all.ghost_name ≡ self.old.all.ghost_name }
     {
-        clear(self.all);
-        self.check_len()?;
-        let mut queue = [0; NODES];
-        spread(graph, from, self.all, &mut queue);
-        Ok(())
+        self.all.fill(0);
+        self.lend(|marks| follow(graph, from, marks))
     }
 
     // As `follow`, for the paths with no stop between their ends.
+    #[tactic(auto, using(crate::proofs::Stopping::searched))]
     pub fn follow_unstopped<G: Graph, S: Stops>(
         &mut self,
         graph: &G,
@@ -109,9 +122,44 @@ impl Marks<'_> {
     pub fn is_marked(&self, node: u8) -> bool
         ensures { result ≡ marked self.now.all.now node }
     {
-        let node = node as usize;
-        node < self.all.len() && self.all[node] != 0
+        self.all.get(node as usize).is_some_and(|mark| *mark != 0)
     }
+}
+
+// What `Marks::lend` does with the slice of its guard: a proof needs to know no more of a guard than that.
+fn lend<R, F: FnOnce(&mut NodeMarks) -> R>(all: &mut [u8], f: F) -> Result<R, Refusal>
+    requires { F.IsAlwaysCallable f }
+    ensures { Lent (FnOnceReturnsAtMut F.FnOnce f (take 256 all.old)) all.old all.new result }
+{
+    match all.first_chunk_mut() {
+        Some(marks) => Ok(f(marks)),
+        None => Err(FEW_MARKS),
+    }
+}
+
+// Marks exactly the nodes to which a path leads from `from`, whatever the marks held.
+#[tactic(auto, using(crate::proofs::Filling::clear_zeros))]
+pub fn follow<G: Graph>(graph: &G, from: u8, marks: &mut NodeMarks)
+    ensures { Reached (Walk (Edge (G.slots graph.now) (G.leads graph.now)) from) marks.new }
+{
+    marks.fill(0);
+    spread(graph, from, marks);
+}
+
+// As `follow`, for the paths with no stop between their ends.
+#[tactic(auto, using(crate::proofs::Stopping::unstopped))]
+pub fn follow_unstopped<G: Graph, S: Stops>(graph: &G, stops: &S, from: u8, marks: &mut NodeMarks)
+    ensures { Reached (Unstopped (Edge (G.Graph.slots graph.now) (G.Graph.leads graph.now)) (S.Stops.stop stops.now) from) marks.new }
+{
+    let graph = Open { graph, stops, from };
+    follow(&graph, from, marks);
+}
+
+// Whether a node is marked.
+pub fn is_marked(marks: &NodeMarks, node: u8) -> bool
+    ensures { result ≡ marked marks.now node }
+{
+    marks[node as usize] != 0
 }
 
 // A graph without the slots of its stops. The start keeps its own, since a path may begin at a stop.
@@ -150,38 +198,72 @@ pub fn reaches<G: Graph>(graph: &G, from: u8, to: u8, marks: &mut [u8]) -> Resul
     Ok(guard.is_marked(to))
 }
 
-fn clear(marks: &mut [u8])
-    ensures { Clear marks.new }
-{
-    for mark in marks.iter_mut() {
-        *mark = 0;
+// The nodes that wait, oldest first, behind those that have had their turn. It holds each node once at most.
+// Not an `ArrayVec`, which would need the head beside it all the same. `long` is a field, since the search's proof knows of a queue only what its fields say.
+#[derive(Drop)]
+struct Queue {
+    nodes: [u8; NODES],
+    head: usize,
+    tail: usize,
+    ghost few: { tail ≤ 256 },
+    ghost long: { length nodes ≡ 256 },
+}
+
+impl Queue {
+    fn of(start: u8) -> Queue
+        ensures first { slice_index result.nodes 0 ≡ start }
+        ensures head { result.head ≡ 0 }
+        ensures tail { result.tail ≡ 1 }
+    {
+        Queue {
+            nodes: [start; NODES],
+            head: 0,
+            tail: 1,
+        }
+    }
+
+    fn push(&mut self, node: u8)
+        requires { self.old.tail < 256 }
+        ensures nodes { self.new.nodes ≡ slice_set self.old.nodes self.old.tail node }
+        ensures head { self.new.head ≡ self.old.head }
+        ensures tail { self.new.tail ≡ self.old.tail + 1 }
+    {
+        self.nodes[self.tail] = node;
+        self.tail += 1;
+    }
+
+    // The oldest of the nodes that wait, whose turn it is then.
+    fn pop(&mut self) -> Option<u8>
+        ensures same { (self.new.nodes ≡ self.old.nodes) × (self.new.tail ≡ self.old.tail) }
+        ensures next { MatchOption result (self.old.tail ≤ self.old.head) (λ node. (self.old.head < self.old.tail) × (slice_index self.old.nodes self.old.head ≡ node) × (self.new.head ≡ self.old.head + 1)) }
+    {
+        if self.head >= self.tail {
+            return None;
+        }
+        let node = self.nodes[self.head];
+        self.head += 1;
+        Some(node)
     }
 }
 
 // Marks each node to which a path leads from `from`, breadth first, in marks that are all zero.
 // The start is queued at the beginning and each other node as it is marked, so none comes into the queue twice.
-fn spread<G: Graph>(graph: &G, from: u8, marks: &mut [u8], queue: &mut [u8])
-    requires marks { 256 ≤ length marks.old }
-    requires queue { 256 ≤ length queue.old }
-    requires clear { Clear marks.old }
+fn spread<G: Graph>(graph: &G, from: u8, marks: &mut NodeMarks)
+    requires { Clear marks.old }
     ensures { Reached (Walk (Edge (G.slots graph.now) (G.leads graph.now)) from) marks.new }
 {
-    queue[0] = from;
-    let mut head = 0;
-    let mut tail = 1;
-    while head < tail {
-        let node = queue[head];
+    let mut queue = Queue::of(from);
+    while let Some(node) = queue.pop() {
+        // A loop over a `filter_map` was tried: here, under a type parameter, the check cannot state its invariant.
         for slot in 0..graph.slot_count(node) {
             if let Some(next) = graph.slot(node, slot) {
                 if marks[next as usize] == 0 {
                     marks[next as usize] = 1;
                     if next != from {
-                        queue[tail] = next;
-                        tail += 1;
+                        queue.push(next);
                     }
                 }
             }
         }
-        head += 1;
     }
 }

@@ -6,7 +6,8 @@ ghost use Rattle.search.specs.Paths.{Edge, Walk};
 ghost use Rattle.search.specs.Marks.{Clear};
 ghost use Rattle.search_tests.specs.Uses.{AllLinked, AllNear};
 
-use search::{Graph, Marks, Refusal};
+use refusal::Refusal;
+use search::{Graph, Marks};
 
 // Two nodes, and whether a path leads from the one to the other.
 #[derive(Clone, Copy)]
@@ -42,8 +43,9 @@ pub fn reach<G: Graph>(
 {
     let mut guard = Marks::over(marks);
     guard.follow(graph, from)?;
-    for node in 0..32u8 {
-        near[node as usize] = node == from || guard.is_marked(node);
+    for (node, near) in near.iter_mut().enumerate() {
+        let node = node as u8;
+        *near = node == from || guard.is_marked(node);
     }
     Ok(())
 }

@@ -1,7 +1,8 @@
 ghost use Rattle.std.specs.Prelude.{min, length, if◌then◌else◌, Some, None, ◌==◌, nat_eq, slice_index_or};
 
 use crate::{Pair, link, reach};
-use search::{Graph, Marks, Refusal, Stops, reaches};
+use refusal::{Refusal, numbered};
+use search::{Graph, Marks, Stops, reaches};
 use std::process::Abort;
 
 // A graph by the list of its edges, of which it takes the first 1,000: each node has a slot for every edge, and its own lead on.
@@ -93,12 +94,7 @@ const PATHS: [(u8, u8); 27] = [
 ];
 
 fn all_zero(marks: &[u8]) -> bool {
-    for mark in marks {
-        if *mark != 0 {
-            return false;
-        }
-    }
-    true
+    marks.iter().all(|mark| *mark == 0)
 }
 
 // Asks with marks full of rubbish, and sees that each is zero afterwards.
@@ -108,9 +104,12 @@ fn ask(
     from: u8,
     to: u8,
     marks: &mut [u8],
-    want: Result<bool, Refusal>,
+    want: Result<bool, (u8, u32)>,
 ) {
-    assert_eq!(rt; reaches(&Table { edges }, from, to, marks), want);
+    assert_eq!(rt;
+        reaches(&Table { edges }, from, to, marks).map_err(numbered),
+        want
+    );
     assert!(rt; all_zero(marks));
 }
 
@@ -199,5 +198,8 @@ fn one_guard_serves_many_questions(rt: HostRuntime) {
     assert_eq!(rt; linked(0, 0), Ok(false));
     assert_eq!(rt; near(0, 0, &mut [0xa5; 256]), Ok(true));
     assert_eq!(rt; near(0, 3, &mut [0xa5; 256]), Ok(false));
-    assert_eq!(rt; near(0, 0, &mut [0xa5; 255]), Err((14, 0)));
+    assert_eq!(rt;
+        near(0, 0, &mut [0xa5; 255]).map_err(numbered),
+        Err((14, 0))
+    );
 }

@@ -7,16 +7,13 @@ use Rattle.store.specs.declared.scalars.Scalar.{Scalar}
 use Rattle.store.specs.Scalars.{scalar_of}
 use Rattle.steps.specs.declared.step.Operand.{Operand}
 use Rattle.steps.specs.declared.step.Operand.TheVariants.{Value, Literal}
-use Rattle.steps.specs.declared.step.Operation.{Operation}
-use Rattle.steps.specs.declared.step.Operation.TheVariants.{Add, Sub, Mul, Div, And, Or, Shl, Shr}
-use Rattle.steps.specs.declared.step.Comparison.{Comparison}
-use Rattle.steps.specs.declared.step.Comparison.TheVariants.{Equal, Less}
 use Rattle.steps.specs.declared.step.Takes.{Takes}
 use Rattle.steps.specs.declared.step.Takes.TheVariants.{Exactly, OtherWord, OtherIntegral}
 use Rattle.steps.specs.declared.step.Use.{Use}
 use Rattle.steps.specs.declared.step.Step.{Step}
 use Rattle.steps.specs.declared.step.Step.TheVariants.{Stop, Set, Copy, Compute, Compare, Load, Store, Offset, Retype, Resize, Jump, Branch}
 use Rattle.steps.specs.declared.fields.Fields.{Fields}
+use Rattle.steps.specs.Codes.{operation_code, comparison_code}
 use Rattle.steps.specs.Types.{same_type, is_integral, is_word, pointer}
 use Rattle.steps.specs.Tables.{operands, sets}
 
@@ -32,20 +29,6 @@ letter_by Torn n = 0
 
 abbrev pub letter_of : Scalar → ℕ
 letter_of t = letter_by t.kind t.size
-
-abbrev pub operation_code : Operation → ℕ
-operation_code Add = 3
-operation_code Sub = 4
-operation_code Mul = 5
-operation_code Div = 6
-operation_code And = 7
-operation_code Or = 8
-operation_code Shl = 9
-operation_code Shr = 10
-
-abbrev pub comparison_code : Comparison → ℕ
-comparison_code Equal = 11
-comparison_code Less = 12
 
 abbrev pub row : ℕ → ℕ → ℕ → Option Operand → Option Operand → ℕ → ℕ → Fields
 row c l v a b j k = record { code = c; letter = l; value = v; a = a; b = b; first = j; second = k }

@@ -1,3 +1,4 @@
+pub mod Codes
 pub mod Types
 pub mod Tables
 pub mod Format

@@ -1,62 +1,42 @@
 // The 16 bytes of a step, and what makes a step well formed.
 ghost use Rattle.std.specs.Prelude.{◌≡◌, ◌^◌, ◌≤◌, Some, None, nat_lt};
-ghost use Rattle.steps.specs.Format.{letter_of, operation_code, comparison_code, row as row_of, fields_of, form_of, bits_of, bytes_of, encoded, lettered, typed, numbered, fitting, both_fitting, formed};
+ghost use Rattle.steps.specs.Codes.{code_number};
+ghost use Rattle.steps.specs.Format.{letter_of, type_of, row as row_of, fields_of, form_of, bits_of, bytes_of, encoded, lettered, typed, numbered, fitting, both_fitting, formed};
 
+use crate::code::Code;
 use crate::fields::Fields;
-use crate::step::{Comparison, Operand, Operation, Step, Takes, Use};
-use crate::tables::{POINTER, is_integral, is_same, is_word};
+use crate::step::{Operand, Step, Takes, Use};
+use crate::tables::{POINTER, is_integral, is_word};
 use store::scalars::Scalar;
 use store::tags::Kind;
 
 // The number of values.
 const VALUES: u8 = 128;
 
-// The letter of a type; 0 for one that no letter stands for.
+// What stands in place of a value where a step sets none.
+const NO_VALUE: u8 = 255;
+
+// The letter of a type; 0 for a kind that has none. A size that none of the kind's letters stands for, which no well-formed step has, counts as 4,
+// so that every step has an encoding: it is not `Scalar::letter` alone.
 fn letter_of(scalar: Scalar) -> u8
     ensures { result ≡ letter_of scalar }
 {
-    match scalar.kind {
-        Kind::Integral => match scalar.size {
-            1 => b'b',
-            2 => b'h',
-            _ => b'w',
-        },
-        Kind::Real => b'f',
-        Kind::Pointer => b'p',
-        _ => 0,
-    }
-}
-
-fn operation_code(operation: Operation) -> u8
-    ensures { result ≡ operation_code operation }
-{
-    match operation {
-        Operation::Add => 3,
-        Operation::Sub => 4,
-        Operation::Mul => 5,
-        Operation::Div => 6,
-        Operation::And => 7,
-        Operation::Or => 8,
-        Operation::Shl => 9,
-        Operation::Shr => 10,
-    }
-}
-
-fn comparison_code(comparison: Comparison) -> u8
-    ensures { result ≡ comparison_code comparison }
-{
-    match comparison {
-        Comparison::Equal => 11,
-        Comparison::Less => 12,
-    }
+    let size = match scalar {
+        Scalar {
+            kind: Kind::Integral,
+            size: 1 | 2,
+        } => scalar.size,
+        _ => 4,
+    };
+    Scalar { size, ..scalar }.letter().unwrap_or(0)
 }
 
 // The fields of a step that has a letter and sets a value.
-fn setting(code: u8, scalar: Scalar, value: u8, a: Operand, b: Option<Operand>) -> Fields
-    ensures { result ≡ row_of code (letter_of scalar) value (Some a) b 0 0 }
+fn setting(code: Code, scalar: Scalar, value: u8, a: Operand, b: Option<Operand>) -> Fields
+    ensures { result ≡ row_of (code_number code) (letter_of scalar) value (Some a) b 0 0 }
 {
     Fields {
-        code,
+        code: u8::from(code),
         letter: letter_of(scalar),
         value,
         a: Some(a),
@@ -67,13 +47,13 @@ fn setting(code: u8, scalar: Scalar, value: u8, a: Operand, b: Option<Operand>) 
 }
 
 // The fields of a step that has no letter and sets nothing.
-fn control(code: u8, a: Option<Operand>, first: u16, second: u16) -> Fields
-    ensures { result ≡ row_of code 0 255 a None first second }
+fn control(code: Code, a: Option<Operand>, first: u16, second: u16) -> Fields
+    ensures { result ≡ row_of (code_number code) 0 255 a None first second }
 {
     Fields {
-        code,
+        code: u8::from(code),
         letter: 0,
-        value: 255,
+        value: NO_VALUE,
         a,
         b: None,
         first,
@@ -81,25 +61,25 @@ fn control(code: u8, a: Option<Operand>, first: u16, second: u16) -> Fields
     }
 }
 
-// The form of an operand: nothing, a value or a literal.
-fn form_of(operand: Option<Operand>) -> u8
-    ensures form { result ≡ form_of operand }
-    ensures small { result ≤ 2 }
-{
-    match operand {
-        None => 0,
-        Some(Operand::Value(_)) => 1,
-        Some(Operand::Literal(_)) => 2,
+impl Operand {
+    // The form of a value and of a literal; that of no operand is 0.
+    fn form(self) -> u8
+        ensures form { result ≡ form_of (Some self) }
+        ensures small { result ≤ 2 }
+    {
+        match self {
+            Operand::Value(_) => 1,
+            Operand::Literal(_) => 2,
+        }
     }
-}
 
-fn bits_of(operand: Option<Operand>) -> u32
-    ensures { result ≡ bits_of operand }
-{
-    match operand {
-        None => 0,
-        Some(Operand::Value(value)) => value,
-        Some(Operand::Literal(literal)) => literal,
+    // The number in the operand's four bytes.
+    fn bits(self) -> u32
+        ensures { result ≡ bits_of (Some self) }
+    {
+        match self {
+            Operand::Value(bits) | Operand::Literal(bits) => bits,
+        }
     }
 }
 
@@ -107,9 +87,9 @@ impl Fields {
     fn to_bytes(self) -> [u8; 16]
         ensures { result ≡ bytes_of self }
     {
-        let forms = form_of(self.a) + 16 * form_of(self.b);
-        let [a0, a1, a2, a3] = bits_of(self.a).to_le_bytes();
-        let [b0, b1, b2, b3] = bits_of(self.b).to_le_bytes();
+        let forms = self.a.map_or(0, Operand::form) + 16 * self.b.map_or(0, Operand::form);
+        let [a0, a1, a2, a3] = self.a.map_or(0, Operand::bits).to_le_bytes();
+        let [b0, b1, b2, b3] = self.b.map_or(0, Operand::bits).to_le_bytes();
         let [first_low, first_high] = self.first.to_le_bytes();
         let [second_low, second_high] = self.second.to_le_bytes();
         [
@@ -137,50 +117,40 @@ impl Fields {
 fn is_lettered(scalar: Scalar) -> bool
     ensures { result ≡ lettered scalar }
 {
-    match Scalar::from_letter(letter_of(scalar)) {
-        Some(own) => is_same(own, scalar),
-        None => false,
-    }
-}
-
-fn is_numbered(set: Option<(u8, Scalar)>) -> bool
-    ensures { result ≡ numbered set }
-{
-    match set {
-        Some((value, _)) => value < VALUES,
-        None => true,
-    }
+    scalar.letter().is_some()
 }
 
 // Whether a literal has at most `size` bytes.
 fn has_room(literal: u32, size: u8) -> bool
     ensures { result ≡ nat_lt literal (256 ^ size) }
 {
-    size >= 4 || literal >> (8 * size as u32) == 0
+    256u32
+        .checked_pow(u32::from(size))
+        .is_none_or(|above| literal < above)
 }
 
-// Whether a literal fits the type of its operand.
-fn is_fitting(used: Option<Use>) -> bool
-    ensures { result ≡ fitting used }
-{
-    match used {
-        Some(
-            Use {
-                operand: Operand::Literal(literal),
-                takes: Takes::Exactly(scalar)
-                | Takes::OtherWord(scalar)
-                | Takes::OtherIntegral(scalar),
-                ..
-            },
-        ) => has_room(literal, scalar.size),
-        _ => true,
+impl Takes {
+    // The type that decides how large a literal may be.
+    fn scalar(self) -> Scalar
+        ensures { result ≡ type_of self }
+    {
+        match self {
+            Takes::Exactly(scalar) | Takes::OtherWord(scalar) | Takes::OtherIntegral(scalar) =>
+                scalar,
+        }
     }
 }
 
-fn are_fitting(operands: (Option<Use>, Option<Use>)) -> bool
-    ensures { result ≡ both_fitting operands }
-{
-    is_fitting(operands.0) && is_fitting(operands.1)
+impl Use {
+    // Whether a literal fits the type of its operand.
+    fn is_fitting(self) -> bool
+        ensures { result ≡ fitting (Some self) }
+    {
+        match self.operand {
+            Operand::Value(_) => true,
+            Operand::Literal(literal) => has_room(literal, self.takes.scalar().size),
+        }
+    }
 }
 
 impl Step {
@@ -188,62 +158,69 @@ impl Step {
         ensures { result ≡ fields_of self }
     {
         match self {
-            Step::Stop => control(0, None, 0, 0),
+            Step::Stop => control(Code::Stop, None, 0, 0),
             Step::Set {
                 scalar,
                 value,
                 literal,
-            } => setting(1, scalar, value, Operand::Literal(literal), None),
+            } => setting(Code::Set, scalar, value, Operand::Literal(literal), None),
             Step::Copy {
                 scalar,
                 value,
                 from,
-            } => setting(2, scalar, value, Operand::Value(from), None),
+            } => setting(Code::Copy, scalar, value, Operand::Value(from), None),
             Step::Compute {
                 operation,
                 scalar,
                 value,
                 a,
                 b,
-            } => setting(operation_code(operation), scalar, value, a, Some(b)),
+            } => setting(Code::Compute(operation), scalar, value, a, Some(b)),
             Step::Compare {
                 comparison,
                 scalar,
                 value,
                 a,
                 b,
-            } => setting(comparison_code(comparison), scalar, value, a, Some(b)),
+            } => setting(Code::Compare(comparison), scalar, value, a, Some(b)),
             Step::Load {
                 scalar,
                 value,
                 address,
-            } => setting(13, scalar, value, address, None),
+            } => setting(Code::Load, scalar, value, address, None),
             Step::Store {
                 scalar,
                 address,
                 stored,
-            } => setting(14, scalar, 255, address, Some(stored)),
-            Step::Offset { value, base, by } => setting(15, POINTER, value, base, Some(by)),
+            } => setting(Code::Store, scalar, NO_VALUE, address, Some(stored)),
+            Step::Offset { value, base, by } => setting(
+                Code::Offset,
+                POINTER,
+                value,
+                base,
+                Some(by),
+            ),
             Step::Retype {
                 scalar,
                 value,
                 from,
-            } => setting(16, scalar, value, Operand::Value(from), None),
+            } => setting(Code::Retype, scalar, value, Operand::Value(from), None),
             Step::Resize {
                 scalar,
                 value,
                 from,
-            } => setting(17, scalar, value, Operand::Value(from), None),
-            Step::Jump { to } => control(18, None, to, 0),
+            } => setting(Code::Resize, scalar, value, Operand::Value(from), None),
+            Step::Jump { to } => control(Code::Jump, None, to, 0),
             Step::Branch {
                 condition,
                 nonzero,
                 zero,
-            } => control(19, Some(condition), nonzero, zero),
+            } => control(Code::Branch, Some(condition), nonzero, zero),
         }
     }
 
     // The step's 16 bytes.
+    #[tactic(auto, unfolding(crate::specs::Format::encoded))]
     pub fn encode(self) -> [u8; 16]
         ensures { result ≡ encoded self }
     {
@@ -268,9 +245,14 @@ impl Step {
     }
 
     // Whether letter, value set and literals are ones that the step may have.
+    #[tactic(auto, unfolding(crate::specs::Format::formed))]
     pub fn is_formed(self) -> bool
         ensures { result ≡ formed self }
     {
-        self.is_typed() && is_numbered(self.sets()) && are_fitting(self.operands())
+        let (a, b) = self.operands();
+        self.is_typed()
+            && self.sets().is_none_or(|(value, _)| value < VALUES)
+            && a.is_none_or(Use::is_fitting)
+            && b.is_none_or(Use::is_fitting)
     }
 }

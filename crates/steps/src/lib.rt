@@ -1,7 +1,7 @@
 // The steps of a routine: what each has as operands, what it sets and where it leads, and the 16 bytes that it is written in.
 #![tactic(auto)]
 
-mod bytes;
+mod code;
 mod decoding;
 mod encoding;
 mod fields;

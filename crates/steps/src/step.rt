@@ -1,33 +1,60 @@
 // Steps and their operands.
+ghost use Rattle.std.specs.Prelude.{◌≡◌};
+ghost use Rattle.steps.specs.Tables.{named};
+ghost use Rattle.steps.specs.Decoding.{literal};
+
 use store::scalars::Scalar;
 
 // What stands as an operand: a value, by its number, or a literal.
-#[derive(Clone, Copy)]
+#[derive(Clone, Copy, PartialEq, Eq, Debug)]
 pub enum Operand {
     Value(u32),
     Literal(u32),
 }
 
-#[derive(Clone, Copy)]
-pub enum Operation {
-    Add,
-    Sub,
-    Mul,
-    Div,
-    And,
-    Or,
-    Shl,
-    Shr,
+impl Operand {
+    // The number of the value that stands there.
+    pub(crate) fn value(self) -> Option<u32>
+        ensures { result ≡ named self }
+    {
+        match self {
+            Operand::Value(value) => Some(value),
+            Operand::Literal(_) => None,
+        }
+    }
+    // The literal that stands there.
+    pub(crate) fn literal(self) -> Option<u32>
+        ensures { result ≡ literal self }
+    {
+        match self {
+            Operand::Value(_) => None,
+            Operand::Literal(literal) => Some(literal),
+        }
+    }
 }
 
-#[derive(Clone, Copy)]
+// An operation has the code of its step as its number.
+#[derive(Clone, Copy, PartialEq, Eq, Debug)]
+pub enum Operation {
+    Add = 3,
+    Sub = 4,
+    Mul = 5,
+    Div = 6,
+    And = 7,
+    Or = 8,
+    Shl = 9,
+    Shr = 10,
+}
+
+// A comparison has the code of its step as its number.
+#[derive(Clone, Copy, PartialEq, Eq, Debug)]
 pub enum Comparison {
-    Equal,
-    Less,
+    Equal = 11,
+    Less = 12,
 }
 
 // A step. `scalar` is the type of its letter, `value` the number of the value that it sets, `from` that of the value that it takes.
-#[derive(Clone, Copy)]
+#[derive(Clone, Copy, PartialEq, Eq, Debug)]
 pub enum Step {
     Stop,
     Set {
@@ -90,7 +117,7 @@ pub enum Step {
 }
 
 // The types of values that an operand takes.
-#[derive(Clone, Copy)]
+#[derive(Clone, Copy, PartialEq, Eq, Debug)]
 pub enum Takes {
     Exactly(Scalar),
     // Another of the types with the size of a pointer.
@@ -100,7 +127,7 @@ pub enum Takes {
 }
 
 // An operand as a step uses it. A step checks the kind of a checked operand, if that is a value, before it does any work.
-#[derive(Clone, Copy)]
+#[derive(Clone, Copy, PartialEq, Eq, Debug)]
 pub struct Use {
     pub operand: Operand,
     pub takes: Takes,

@@ -1,6 +1,6 @@
 // What each step has as operands, what it sets, and where it leads.
-ghost use Rattle.std.specs.Prelude.{◌≡◌};
-ghost use Rattle.steps.specs.Types.{accepts as accepts_type, same_type, is_integral, is_word};
+ghost use Rattle.std.specs.Prelude.{◌≡◌, Some};
+ghost use Rattle.steps.specs.Types.{accepts as accepts_type, is_integral, is_word};
 ghost use Rattle.steps.specs.Tables.{operands as operands_of, sets as set_by, unsure, targets as targets_of, terminator, nexts as nexts_of, uses as uses_of, used_in, checks as checks_of, checked_in, checked as checked_use, plain as plain_use};
 
 use crate::step::{Operand, Step, Takes, Use};
@@ -23,16 +23,10 @@ pub const POINTER: Scalar = Scalar {
     size: 4,
 };
 
-pub(crate) fn is_same(a: Scalar, b: Scalar) -> bool
-    ensures { result ≡ same_type a b }
-{
-    a.kind.number() == b.kind.number() && a.size == b.size
-}
-
 pub(crate) fn is_integral(scalar: Scalar) -> bool
     ensures { result ≡ is_integral scalar }
 {
-    scalar.kind.number() == Kind::Integral.number()
+    scalar.kind == Kind::Integral
 }
 
 pub(crate) fn is_word(scalar: Scalar) -> bool
@@ -41,47 +35,43 @@ pub(crate) fn is_word(scalar: Scalar) -> bool
     scalar.size == POINTER.size
 }
 
-fn checked(operand: Operand, takes: Takes) -> Option<Use>
-    ensures { result ≡ checked_use operand takes }
-{
-    Some(Use {
-        operand,
-        takes,
-        checked: true,
-    })
-}
-
-fn plain(operand: Operand, takes: Takes) -> Option<Use>
-    ensures { result ≡ plain_use operand takes }
-{
-    Some(Use {
-        operand,
-        takes,
-        checked: false,
-    })
-}
-
-fn value_used(used: Option<Use>) -> Option<(u32, Takes)>
-    ensures { result ≡ used_in used }
-{
-    match used?.operand {
-        Operand::Value(value) => Some((value, used?.takes)),
-        Operand::Literal(_) => None,
+impl Use {
+    // An operand whose kind the step leaves alone.
+    fn plain(operand: Operand, takes: Takes) -> Use
+        ensures { Some result ≡ plain_use operand takes }
+    {
+        Use {
+            operand,
+            takes,
+            checked: false,
+        }
     }
-}
 
-fn value_checked(used: Option<Use>) -> Option<u32>
-    ensures { result ≡ checked_in used }
-{
-    match used {
-        Some(
-            Use {
-                operand: Operand::Value(value),
-                checked: true,
-                ..
-            },
-        ) => Some(value),
-        _ => None,
+    fn checked(operand: Operand, takes: Takes) -> Use
+        ensures { Some result ≡ checked_use operand takes }
+    {
+        Use {
+            checked: true,
+            ..Use::plain(operand, takes)
+        }
+    }
+
+    // The value that stands as the operand, with what the operand takes.
+    fn value(self) -> Option<(u32, Takes)>
+        ensures { result ≡ used_in (Some self) }
+    {
+        Some((self.operand.value()?, self.takes))
+    }
+
+    // The value that is checked as the operand.
+    fn checked_value(self) -> Option<u32>
+        ensures { result ≡ checked_in (Some self) }
+    {
+        if self.checked {
+            self.operand.value()
+        } else {
+            None
+        }
     }
 }
 
@@ -91,9 +81,9 @@ impl Takes {
         ensures { result ≡ accepts_type self scalar }
     {
         match self {
-            Takes::Exactly(own) => is_same(scalar, own),
-            Takes::OtherWord(own) => is_word(scalar) && !is_same(scalar, own),
-            Takes::OtherIntegral(own) => is_integral(scalar) && !is_same(scalar, own),
+            Takes::Exactly(own) => scalar == own,
+            Takes::OtherWord(own) => is_word(scalar) && scalar != own,
+            Takes::OtherIntegral(own) => is_integral(scalar) && scalar != own,
         }
     }
 }
@@ -110,39 +100,45 @@ impl Step {
                 literal,
                 ..
             } => (
-                plain(Operand::Literal(literal), Takes::Exactly(scalar)),
+                Some(Use::plain(Operand::Literal(literal), Takes::Exactly(scalar))),
                 None,
             ),
             Step::Copy { scalar, from, .. } => (
-                plain(Operand::Value(from), Takes::Exactly(scalar)),
+                Some(Use::plain(Operand::Value(from), Takes::Exactly(scalar))),
                 None,
             ),
             Step::Compute { scalar, a, b, .. } | Step::Compare { scalar, a, b, .. } => (
-                checked(a, Takes::Exactly(scalar)),
-                checked(b, Takes::Exactly(scalar)),
+                Some(Use::checked(a, Takes::Exactly(scalar))),
+                Some(Use::checked(b, Takes::Exactly(scalar))),
             ),
-            Step::Load { address, .. } => (checked(address, Takes::Exactly(POINTER)), None),
+            Step::Load { address, .. } => (
+                Some(Use::checked(address, Takes::Exactly(POINTER))),
+                None,
+            ),
             Step::Store {
                 scalar,
                 address,
                 stored,
             } => (
-                checked(address, Takes::Exactly(POINTER)),
-                plain(stored, Takes::Exactly(scalar)),
+                Some(Use::checked(address, Takes::Exactly(POINTER))),
+                Some(Use::plain(stored, Takes::Exactly(scalar))),
             ),
             Step::Offset { base, by, .. } => (
-                checked(base, Takes::Exactly(POINTER)),
-                checked(by, Takes::Exactly(WORD)),
+                Some(Use::checked(base, Takes::Exactly(POINTER))),
+                Some(Use::checked(by, Takes::Exactly(WORD))),
             ),
             Step::Retype { scalar, from, .. } => (
-                checked(Operand::Value(from), Takes::OtherWord(scalar)),
+                Some(Use::checked(Operand::Value(from), Takes::OtherWord(scalar))),
                 None,
             ),
             Step::Resize { scalar, from, .. } => (
-                checked(Operand::Value(from), Takes::OtherIntegral(scalar)),
+                Some(Use::checked(Operand::Value(from), Takes::OtherIntegral(scalar))),
                 None,
             ),
-            Step::Branch { condition, .. } => (checked(condition, Takes::Exactly(BYTE)), None),
+            Step::Branch { condition, .. } => (
+                Some(Use::checked(condition, Takes::Exactly(BYTE))),
+                None,
+            ),
         }
     }
 
@@ -151,7 +147,7 @@ impl Step {
         ensures { result ≡ uses_of self }
     {
         let (a, b) = self.operands();
-        (value_used(a), value_used(b))
+        (a.and_then(Use::value), b.and_then(Use::value))
     }
 
     // The values that the step checks, as A and as B.
@@ -159,7 +155,10 @@ impl Step {
         ensures { result ≡ checks_of self }
     {
         let (a, b) = self.operands();
-        (value_checked(a), value_checked(b))
+        (
+            a.and_then(Use::checked_value),
+            b.and_then(Use::checked_value),
+        )
     }
 
     // The value that the step sets, and its type.
@@ -183,10 +182,7 @@ impl Step {
     pub fn is_unsure(self) -> bool
         ensures { result ≡ unsure self }
     {
-        match self {
-            Step::Copy { .. } | Step::Load { .. } => true,
-            _ => false,
-        }
+        matches!(self, Step::Copy { .. } | Step::Load { .. })
     }
 
     pub fn targets(self) -> (Option<u16>, Option<u16>)
@@ -203,21 +199,18 @@ impl Step {
     pub fn is_terminator(self) -> bool
         ensures { result ≡ terminator self }
     {
-        match self {
-            Step::Stop | Step::Jump { .. } | Step::Branch { .. } => true,
-            _ => false,
-        }
+        matches!(self, Step::Stop | Step::Jump { .. } | Step::Branch { .. })
     }
 
     // The next steps of the step, where it stands at `at`.
     pub fn nexts(self, at: u16) -> (Option<u32>, Option<u32>)
         ensures { result ≡ nexts_of self at }
     {
-        match self {
-            Step::Stop => (None, None),
-            Step::Jump { to } => (Some(to as u32), None),
-            Step::Branch { nonzero, zero, .. } => (Some(nonzero as u32), Some(zero as u32)),
-            _ => (Some(at as u32 + 1), None),
+        if self.is_terminator() {
+            let (a, b) = self.targets();
+            (a.map(u32::from), b.map(u32::from))
+        } else {
+            (Some(u32::from(at) + 1), None)
         }
     }
 }

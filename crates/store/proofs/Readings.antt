@@ -1,11 +1,16 @@
 -- What the first byte tells of a reading. Assumes nothing.
 use Rattle.std.proofs.Common.{◌≡◌, ℕ, zero, suc, ◌+◌, ◌<◌, true, false, cond, ◌&&◌, eqb, sym, refl, ◌∙◌, subst, ⊎_elim, arith}
-use Rattle.std.proofs.lemmas.Bool.{and_left, and_right, cases_Bool, cases_eq, both_ways, eq-eqb, ne_eqb, eqb-true}
+use Rattle.std.proofs.lemmas.Bool.{and_from, and_left, and_right, cases_Bool, cases_eq, both_ways, eq-eqb, ne_eqb, eqb-true}
 use Rattle.store.specs.declared.tags.Kind.{Kind}
 use Rattle.store.specs.declared.tags.Kind.TheVariants.{Uninitialized, Zero, Torn}
 use Rattle.store.specs.Cells.{Memory, number_of, single, sound}
 use Rattle.store.specs.Reading.{same, all_of, kind_read}
 use Rattle.store.proofs.Numbers.{single-size, sized_of}
+
+-- bytes that each have the kind
+pub each-all : (m : Memory) (k : Kind) (a n : ℕ) → ((j : ℕ) → j < n → same (m (a + j)).kind k ≡ true) → all_of m k a n ≡ true
+each-all m k a zero h = refl
+each-all m k a (suc n) h = and_from (all_of m k a n) (same (m (a + n)).kind k) (each-all m k a n (λ j l. h j (omega arith))) (h n (omega arith))
 
 -- one byte of another kind spoils all
 pub not-all : (m : Memory) (k : Kind) (a n j : ℕ) → j < n → same (m (a + j)).kind k ≡ false → all_of m k a n ≡ false

@@ -1,8 +1,11 @@
 -- The rules of tag stores. A store means a cell for each address; past its 4,096 bytes every cell is unallocated.
 use Rattle.std.specs.Prelude.{◌≡◌, ℕ, ◌+◌, ◌-◌, ◌≤◌, Bool, true, false, cond, not, ◌&&◌, ◌||◌, Some, None, Ok, Err, Option, Result, ◌==◌, nat_le, nat_lt}
+use Rattle.refusal.specs.declared.Rule.TheVariants.{Placing as PlacingRule}
+use Rattle.refusal.specs.Refusals.{Refusal}
 use Rattle.store.specs.declared.tags.Kind.{Kind}
 use Rattle.store.specs.declared.tags.Kind.TheVariants.{Unallocated, Uninitialized, Zero, Integral, Real, Pointer, Torn}
 use Rattle.store.specs.declared.tags.Cell.{Cell}
+use Rattle.store.specs.declared.tags.UnknownKind.{UnknownKind}
 
 abbrev pub Memory : Type 0
 Memory = ℕ → Cell
@@ -35,6 +38,10 @@ abbrev pub kind_of : ℕ → Kind
 kind_of k =
     cond (k == 0) Unallocated (cond (k == 1) Uninitialized (cond (k == 2) Zero
     (cond (k == 3) Integral (cond (k == 4) Real (cond (k == 5) Pointer Torn)))))
+
+-- the answer to which kind has a number
+abbrev pub kind_answer : ℕ → Result Kind UnknownKind
+kind_answer n = cond (nat_le n 6) (Ok (kind_of n)) (Err (record { 0 = n }))
 
 -- the sizes of objects, in bytes
 abbrev pub is_size : ℕ → Bool
@@ -89,8 +96,8 @@ refused a k n =
 abbrev pub put : Memory → ℕ → ℕ → ℕ → Memory
 put m a k n = cond (refused a k n) m (placed m a (kind_of k) n)
 
-abbrev pub reply : ℕ → ℕ → ℕ → Result (Unit {0}) (ℕ × ℕ)
-reply a k n = cond (refused a k n) (Err (15, 0)) (Ok tt)
+abbrev pub reply : ℕ → ℕ → ℕ → Result (Unit {0}) Refusal
+reply a k n = cond (refused a k n) (Err (PlacingRule, 0)) (Ok tt)
 
 -- the answer to a question for the cell of an address
 abbrev pub asked : Memory → ℕ → Option Cell

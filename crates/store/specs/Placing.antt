@@ -1,13 +1,15 @@
 -- A placing as those who write a store see it: which bytes change, and what each becomes.
 use Rattle.std.specs.Prelude.{◌≡◌, ℕ, ◌+◌, ◌-◌, true, false, cond, Ok, Err, Result}
+use Rattle.refusal.specs.declared.Rule.TheVariants.{Placing as PlacingRule}
+use Rattle.refusal.specs.Refusals.{Refusal}
 use Rattle.store.specs.declared.tags.Cell.{Cell}
 use Rattle.store.specs.declared.placing.Placing.{Placing}
 use Rattle.store.specs.Cells.{Memory, kind_of, fresh, among, placed, refused, torn}
 
 -- the answer to a request for a placing: it is refused by the rule of stores, or it is the one that was asked for
-abbrev pub Requested : ℕ → ℕ → ℕ → Result Placing (ℕ × ℕ) → Type 0
+abbrev pub Requested : ℕ → ℕ → ℕ → Result Placing Refusal → Type 0
 Requested a k n (Ok p) = (refused a k n ≡ false) × (p.start ≡ a) × (p.kind ≡ kind_of k) × (p.size ≡ n)
-Requested a k n (Err e) = (refused a k n ≡ true) × (e ≡ (15, 0))
+Requested a k n (Err e) = (refused a k n ≡ true) × (e ≡ (PlacingRule, 0))
 
 -- what the placing leaves of a memory
 abbrev pub carried : Memory → Placing → Memory

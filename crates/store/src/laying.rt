@@ -1,56 +1,69 @@
 // What a placing does to each cell, for those who write a store.
 ghost use Rattle.std.specs.Prelude.{◌≡◌};
-ghost use Rattle.store.specs.Cells.{fresh, refused};
-ghost use Rattle.store.specs.Placing.{Requested, laid, last as end, spanned};
+ghost use Rattle.store.specs.Cells.{cell_of, fitting, fresh};
+ghost use Rattle.store.specs.Placing.{Requested, laid, last as end, span_in, spanned};
 
+use crate::halves::Cells;
 use crate::placing::Placing;
-use crate::tags::{BYTES, Cell, Kind, Refusal};
+use crate::tags::{BYTES, Cell, Kind};
+use refusal::{Refusal, Rule};
 
-// What placing the kind over `size` bytes makes of the one at `position`.
-fn fresh_cell(kind: Kind, size: u8, position: u8) -> Cell
-    ensures { result ≡ fresh kind size position }
-{
-    match kind {
-        Kind::Integral | Kind::Real | Kind::Pointer => Cell {
-            kind,
-            size,
-            position,
-        },
-        Kind::Unallocated | Kind::Uninitialized | Kind::Zero | Kind::Torn => Cell {
+const REFUSED: Refusal = (Rule::Placing, 0);
+
+impl Cell {
+    // A byte that is an object by itself.
+    pub fn alone(kind: Kind) -> Cell
+        ensures { result ≡ cell_of kind 1 0 }
+    {
+        Cell {
             kind,
             size: 1,
             position: 0,
-        },
+        }
     }
 }
 
-fn is_refused(address: u32, kind: u8, size: u8) -> bool
-    ensures { result ≡ refused address kind size }
-{
-    if address >= BYTES || address + size as u32 > BYTES {
-        return true;
+impl Kind {
+    // Whether the kind may be placed over `size` bytes.
+    fn fits(self, size: u8) -> bool
+        ensures { result ≡ fitting self size }
+    {
+        match self {
+            Kind::Real | Kind::Pointer => size == 4,
+            _ => matches!(size, 1 | 2 | 4),
+        }
     }
-    if kind > 6 || (size != 1 && size != 2 && size != 4) {
-        return true;
+
+    // What placing the kind over `size` bytes makes of the one at `position`.
+    fn fresh(self, size: u8, position: u8) -> Cell
+        ensures { result ≡ fresh self size position }
+    {
+        match self {
+            Kind::Integral | Kind::Real | Kind::Pointer => Cell {
+                kind: self,
+                size,
+                position,
+            },
+            _ => Cell::alone(self),
+        }
     }
-    (kind == 4 || kind == 5) && size != 4
 }
 
 impl Placing {
-    // The placing that is asked for, by a kind's number, or refusal 15.
+    // The placing that is asked for, or the refusal of it. The kind comes as its number, as in `place`.
     pub fn request(address: u32, kind: u8, size: u8) -> Result<Placing, Refusal>
         ensures { Requested address kind size result }
     {
-        if is_refused(address, kind, size) {
-            return Err((15, 0));
+        if address >= BYTES || address + size as u32 > BYTES {
+            return Err(REFUSED);
         }
-        match Kind::from_number(kind) {
-            Some(kind) => Ok(Placing {
+        match Kind::try_from(kind) {
+            Ok(kind) if kind.fits(size) => Ok(Placing {
                 start: address,
                 kind,
                 size,
             }),
-            None => Err((15, 0)),
+            _ => Err(REFUSED),
         }
     }
 
@@ -59,13 +72,9 @@ impl Placing {
         ensures { result ≡ laid self.now i }
     {
         if self.start <= i && i - self.start < self.size as u32 {
-            fresh_cell(self.kind, self.size, (i - self.start) as u8)
+            self.kind.fresh(self.size, (i - self.start) as u8)
         } else {
-            Cell {
-                kind: Kind::Torn,
-                size: 1,
-                position: 0,
-            }
+            Cell::alone(Kind::Torn)
         }
     }
 
@@ -82,5 +91,14 @@ impl Placing {
         let low = self.start.saturating_sub(first.position as u32);
         let start = self.last().saturating_sub(last.position as u32);
         (low, start + last.size as u32)
+    }
+
+    // The bytes that change in a store.
+    pub fn span_in<C: Cells>(&self, store: &C) -> (u32, u32)
+        ensures { result ≡ span_in (C.Cells.cells store.now) self.now }
+    {
+        let first = store.cell(self.start).unwrap();
+        let last = store.cell(self.last()).unwrap();
+        self.span(first, last)
     }
 }

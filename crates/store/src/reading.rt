@@ -1,4 +1,5 @@
 // The kind that bytes are read as, over any asking half.
+// An address and a size stay two parameters: a struct of them would be made at each call, and taken apart in it.
 ghost use Rattle.std.specs.Prelude.{◌≡◌, ◌+◌, ◌<◌, ◌≤◌, ◌&&◌, if◌then◌else◌, ◌==◌, nat_eq};
 ghost use Rattle.store.specs.declared.tags.Kind.TheVariants.{Torn};
 ghost use Rattle.store.specs.Reading.{same, all_of, kind_read, read_answer};
@@ -10,22 +11,14 @@ fn is_kind<C: Cells>(store: &C, kind: Kind, address: u32) -> bool
     requires { address < 4096 }
     ensures { result ≡ same (C.Cells.cells store.now address).kind kind }
 {
-    match store.cell(address) {
-        Some(cell) => cell.kind.number() == kind.number(),
-        None => false,
-    }
+    store.cell(address).is_some_and(|cell| cell.kind == kind)
 }
 
 fn all_of<C: Cells>(store: &C, kind: Kind, address: u32, size: u8) -> bool
     requires { address + size ≤ 4096 }
     ensures { result ≡ all_of (C.Cells.cells store.now) kind address size }
 {
-    for i in 0..size {
-        if !is_kind(store, kind, address + i as u32) {
-            return false;
-        }
-    }
-    true
+    (0..size).all(|i| is_kind(store, kind, address + i as u32))
 }
 
 // The kind if all the bytes have it, and torn otherwise.

@@ -1,6 +1,6 @@
 // The types of fields and values, by their letters.
-ghost use Rattle.std.specs.Prelude.{◌≡◌};
-ghost use Rattle.store.specs.Scalars.{scalar_of};
+ghost use Rattle.std.specs.Prelude.{◌≡◌, ℕ, ◌↔◌, Some};
+ghost use Rattle.store.specs.Scalars.{scalar_of, letter_for};
 
 use crate::tags::Kind;
 
@@ -37,6 +37,21 @@ impl Scalar {
                 kind: Kind::Pointer,
                 size: 4,
             }),
+            _ => None,
+        }
+    }
+
+    // The letter that stands for the type; none for a type that no letter stands for.
+    pub fn letter(self) -> Option<u8>
+        ensures letter { result ≡ letter_for self }
+        ensures stands { (l : ℕ) → (result ≡ Some l) ↔ (scalar_of l ≡ Some self) }
+    {
+        match (self.kind, self.size) {
+            (Kind::Integral, 1) => Some(b'b'),
+            (Kind::Integral, 2) => Some(b'h'),
+            (Kind::Integral, 4) => Some(b'w'),
+            (Kind::Real, 4) => Some(b'f'),
+            (Kind::Pointer, 4) => Some(b'p'),
             _ => None,
         }
     }

@@ -1,9 +1,8 @@
 // The kind of an object, and the cell of a byte.
-ghost use Rattle.std.specs.Prelude.{◌≡◌, if◌then◌else◌, Some, None, nat_le};
-ghost use Rattle.store.specs.Cells.{kind_of, number_of};
+ghost use Rattle.std.specs.Prelude.{◌≡◌};
+ghost use Rattle.store.specs.Cells.{kind_answer, number_of};
 
-// The number and the place of a refusal.
-pub type Refusal = (u8, u32);
+use std::fmt;
 
 // The bytes of a memory.
 pub const BYTES: u32 = 4096;
@@ -29,25 +28,47 @@ pub struct Cell {
     pub position: u8,
 }
 
-impl Kind {
-    pub fn from_number(number: u8) -> Option<Kind>
-        ensures { result ≡ (if nat_le number 6 then Some (kind_of number) else None) }
-    {
+// A number that no kind has.
+#[derive(Clone, Copy, PartialEq, Eq, Debug)]
+pub struct UnknownKind(pub u8);
+
+impl TryFrom<u8> for Kind {
+    type Error = UnknownKind;
+
+    ghost try_from_gives = { λ number result. result ≡ kind_answer number };
+
+    fn try_from(number: u8) -> Result<Kind, UnknownKind> {
         match number {
-            0 => Some(Kind::Unallocated),
-            1 => Some(Kind::Uninitialized),
-            2 => Some(Kind::Zero),
-            3 => Some(Kind::Integral),
-            4 => Some(Kind::Real),
-            5 => Some(Kind::Pointer),
-            6 => Some(Kind::Torn),
-            _ => None,
+            0 => Ok(Kind::Unallocated),
+            1 => Ok(Kind::Uninitialized),
+            2 => Ok(Kind::Zero),
+            3 => Ok(Kind::Integral),
+            4 => Ok(Kind::Real),
+            5 => Ok(Kind::Pointer),
+            6 => Ok(Kind::Torn),
+            _ => Err(UnknownKind(number)),
         }
     }
+}
 
-    pub fn number(self) -> u8
-        ensures { result ≡ number_of self }
-    {
-        self as u8
+impl fmt::Display for Kind {
+    fn fmt<W: fmt::Write>(&self, f: &mut fmt::Formatter<W>) -> fmt::Result {
+        f.write_str(match self {
+            Kind::Unallocated => "unallocated",
+            Kind::Uninitialized => "uninitialized",
+            Kind::Zero => "zero",
+            Kind::Integral => "integral",
+            Kind::Real => "real",
+            Kind::Pointer => "pointer",
+            Kind::Torn => "torn",
+        })
+    }
+}
+
+impl From<Kind> for u8 {
+    ghost from_gives = { λ kind number. number ≡ number_of kind };
+
+    fn from(kind: Kind) -> u8 {
+        kind as u8
     }
 }

@@ -1,7 +1,9 @@
 -- What a placing does, and what is read after it, in the words of objects. Assumes nothing.
-use Rattle.std.proofs.Common.{◌≡◌, ℕ, zero, suc, ◌+◌, ◌-◌, ◌<◌, ◌≤◌, Bool, true, false, cond, ◌&&◌, eqb, leb, ◌⊎◌, Some, None, Ok, Err, Result, refl, ap, ◌∙◌, subst, inl, inr, ⊎_elim, arith}
+use Rattle.std.proofs.Common.{◌≡◌, ℕ, zero, suc, ◌+◌, ◌-◌, ◌<◌, ◌≤◌, Bool, true, false, cond, ◌&&◌, eqb, leb, ◌⊎◌, Some, Ok, Err, Result, refl, ap, ◌∙◌, subst, inl, inr, ⊎_elim, arith}
 use Rattle.std.proofs.lemmas.Bool.Decides.{nat_tests}
-use Rattle.std.proofs.lemmas.Bool.{cases_lt, cases_Bool, cases_eq, and_from, and_left, and_right, eq-eqb, ne_eqb}
+use Rattle.std.proofs.lemmas.Bool.{cases_lt, cases_Bool, cases_eq, and_from, and_left, and_right, eq-eqb, ne_eqb, le-leb}
+use Rattle.refusal.specs.declared.Rule.TheVariants.{Placing as PlacingRule}
+use Rattle.refusal.specs.Refusals.{Refusal}
 use Rattle.store.specs.declared.tags.Kind.{Kind}
 use Rattle.store.specs.declared.tags.Kind.TheVariants.{Unallocated, Uninitialized, Zero, Integral, Real, Pointer, Torn}
 use Rattle.store.specs.declared.tags.Cell.{Cell}
@@ -188,16 +190,9 @@ module _ (m : Memory) (a : ℕ) (k : Kind) (n s : ℕ) (l : Kind) (z i j : ℕ) 
   read_cut = rw (torn_kind Uninitialized refl, torn_kind Zero refl, no_object) refl
 
 -- what the answers of placing and reading tell
-pub not-refused : (b : Bool) → ◌≡◌ {A = Result (Unit {0}) (ℕ × ℕ)} (Ok tt) (cond b (Err (15, 0)) (Ok tt)) → b ≡ false
+pub not-refused : (b : Bool) → ◌≡◌ {A = Result (Unit {0}) Refusal} (Ok tt) (cond b (Err (PlacingRule, 0)) (Ok tt)) → b ≡ false
 not-refused true e = let z : ◌≡◌ {A = ℕ} 0 1 = cc in absurd (omega arith)
 not-refused false e = refl
-
-pub read_is : (m : Memory) (a n : ℕ) (r : Kind) → Some r ≡ read_answer m a n → r ≡ kind_read m a n
-read_is m a n r e = got (leb 1 n && leb (a + n) 4096) (kind_read m a n) r e
-  where
-    got : (b : Bool) (d c : Kind) → Some c ≡ cond b (Some d) None → c ≡ d
-    got true d c e = cc
-    got false d c e = let z : ◌≡◌ {A = ℕ} 0 1 = cc in absurd (omega arith)
 
 pub reading : Reading
 reading m a k n w h =
@@ -209,10 +204,11 @@ reading m a k n w h =
     }
 
 -- what is read from a store once a placing was granted
-pub read_after : (m after : Memory) (a k n : ℕ) (r : Kind) → Whole m → Ok tt ≡ reply a k n → after ≡ put m a k n → Some r ≡ read_answer after a n
-    → ◌≡◌ {A = Result Kind (ℕ × ℕ)} (Ok r) (cond (refused a k n) (Err (15, 0)) (Ok (read_back (kind_of k) n)))
-read_after m after a k n r w e left read =
+pub read_after : (m after : Memory) (a k n : ℕ) → Whole m → Ok tt ≡ reply a k n → after ≡ put m a k n
+    → (refused a k n ≡ false) × (read_answer after a n ≡ Some (read_back (kind_of k) n))
+read_after m after a k n w e left =
     let fine : refused a k n ≡ false = not-refused (refused a k n) e in
-    let law = reading m a k n w fine in
     let same : after ≡ placed m a (kind_of k) n = left ∙ rw fine refl in
-    rw fine (ap Ok (read_is after a n r read ∙ ap (λ x. kind_read x a n) same ∙ law.back))
+    let g = granted a k n fine in
+    let inside : (leb 1 n && leb (a + n) 4096) ≡ true = and_from (leb 1 n) (leb (a + n) 4096) (le-leb 1 n g.0) (le-leb (a + n) 4096 g.1) in
+    (fine, rw inside (ap Some (ap (λ x. kind_read x a n) same ∙ (reading m a k n w fine).back)))

@@ -2,13 +2,15 @@
 #![tactic(auto)]
 
 ghost use Rattle.std.specs.Prelude.{◌≡◌, if◌then◌else◌, Ok, Err};
+ghost use Rattle.refusal.specs.declared.Rule.TheVariants.{Placing as PlacingRule};
 ghost use Rattle.store.specs.Cells.{kind_of, refused, put, reply};
 ghost use Rattle.store_laws.specs.Listed.{Listing};
 ghost use Rattle.store_laws.specs.Laws.{WholeObjects, Placing, Reading, read_back};
 
+use refusal::{Refusal, Rule};
 use store::halves::{Cells, Places};
 use store::reading::kind_read;
-use store::tags::{Kind, Refusal};
+use store::tags::Kind;
 
 // The laws of every memory that a store can mean. The call does nothing: its contract is the laws.
 pub fn laws_of_memory()
@@ -22,7 +24,7 @@ pub fn laws_of_placing()
     ensures reading { Reading }
 {}
 
-// What is to be placed: an address, a kind's number and a size.
+// What is to be placed: an address, a kind and a size. The kind is its number, as in `place`.
 #[derive(Clone, Copy)]
 pub struct Order {
     pub address: u32,
@@ -44,19 +46,16 @@ pub fn place_twice<S: Places>(
     (a, b)
 }
 
-// Places, and reads the same bytes.
+// Places, and reads the same bytes. The kind is its number, as in `place`.
 pub fn place_and_read<S: Places>(
     store: &mut S,
     address: u32,
     kind: u8,
     size: u8,
 ) -> Result<Kind, Refusal>
-    ensures answer { result ≡ (if refused address kind size then Err (15, 0) else Ok (read_back (kind_of kind) size)) }
+    ensures answer { result ≡ (if refused address kind size then Err (PlacingRule, 0) else Ok (read_back (kind_of kind) size)) }
     ensures left { S.Cells.cells store.new ≡ put (S.Cells.cells store.old) address kind size }
 {
     store.place(address, kind, size)?;
-    match kind_read(store, address, size) {
-        Some(read) => Ok(read),
-        None => Err((15, 0)),
-    }
+    kind_read(store, address, size).ok_or((Rule::Placing, 0))
 }

@@ -5,11 +5,12 @@
 mod tests {
     use flat::Flat;
     use mirror::{Mirror, Mirrored};
+    use refusal::numbered;
     use std::process::Abort;
     use store::halves::{Cells, Places};
     use store::reading::kind_read;
     use store::scalars::Scalar;
-    use store::tags::{Cell, Kind, Refusal};
+    use store::tags::{Cell, Kind};
 
     const TORN: Cell = Cell {
         kind: Kind::Torn,
@@ -77,9 +78,9 @@ mod tests {
     }
 
     // A placing, what it answers, and the kinds of bytes 0 to 8 and of the last three after it.
-    type Row = ((u32, u8, u8), Result<(), Refusal>, [u8; 9], [u8; 3]);
+    type Row = ((u32, u8, u8), Result<(), (u8, u32)>, [u8; 9], [u8; 3]);
 
-    const REFUSED: Result<(), Refusal> = Err((15, 0));
+    const REFUSED: Result<(), (u8, u32)> = Err((15, 0));
 
     // Overlaps to the left, to the right, on both sides and at the last byte; and every reason for a refusal.
     const ROWS: [Row; 17] = [
@@ -118,15 +119,12 @@ mod tests {
     ];
 
     fn kind_number<C: Cells>(store: &C, address: u32) -> u8 {
-        match store.cell(address) {
-            Some(cell) => cell.kind.number(),
-            None => 255,
-        }
+        store.cell(address).map_or(255, |cell| cell.kind.into())
     }
 
     fn check_row<S: Places>(rt: &impl Abort, store: &mut S, row: Row) {
         let ((address, kind, size), answer, front, back) = row;
-        assert_eq!(rt; store.place(address, kind, size), answer);
+        assert_eq!(rt; store.place(address, kind, size).map_err(numbered), answer);
         for i in 0..9 {
             assert_eq!(rt; kind_number(store, i as u32), front[i]);
         }

@@ -1,35 +1,30 @@
 // Opening and shutting areas, and questions about them.
-ghost use Rattle.std.specs.Prelude.{◌≡◌, ◌+◌, ◌≤◌, true, [], length, IfSome, IfOk, OnOk, nat_lt};
+ghost use Rattle.std.specs.Prelude.{◌≡◌, ◌+◌, ◌<◌, ◌≤◌, true, [], length, IfSome, IfOk, MatchOption, OnOk};
 ghost use Rattle.std.specs.List.{slice_get};
 ghost use Rattle.areas.specs.Area.{any, area_of, begins, crosses, holds, lawful};
-ghost use Rattle.areas.specs.Ordered.{Added, found, index_of, inserted, without};
+ghost use Rattle.areas.specs.Ordered.{Added, Parted, found, index_of, inserted, without};
 ghost use Rattle.areas.specs.Calls.{Within, left, open_answer, opened, shut_answer};
 
-use super::Areas;
-use super::rows::{Begins, Crosses, Holds, any_passes, insert, position, remove};
+use super::{Areas, MOST};
 use crate::area::Area;
-use store::tags::{BYTES, Refusal};
+use arrayvec::ArrayVec;
+use refusal::{Refusal, Rule};
+use store::tags::BYTES;
 
-// How many areas can be open.
-const MOST: usize = 32;
-
+// A start and a size stay two parameters of what is public, as callers have them.
 impl Areas {
     pub fn new() -> Areas
         ensures { opened result ≡ [] }
     {
         Areas {
-            list: [Area {
-                start: 0,
-                length: 0,
-            }; MOST],
-            count: 0,
+            list: ArrayVec::new(),
         }
     }
 
     pub fn count(&self) -> u8
         ensures { result ≡ length (opened self.now) }
     {
-        self.count as u8
+        self.list.len() as u8
     }
 
     // Area `i` by address, from 0.
@@ -37,31 +32,23 @@ impl Areas {
         ensures value { result ≡ slice_get (opened self.now) i }
         ensures within { IfSome result Within }
     {
-        if self.has(i) {
-            Some(self.list[i as usize])
-        } else {
-            None
-        }
+        self.list.get(i as usize).copied()
     }
 
     // The number of the area that begins at `start`.
     pub fn index_at(&self, start: u32) -> Option<u8>
         ensures { result ≡ index_of (begins start) (opened self.now) }
     {
-        position(&self.list[0..self.count], &Begins { at: start })
+        let found = self.list.binary_search_by_key(&start, |x| x.start);
+        found.ok().map(|i| i as u8)
     }
 
     // The number of the area that has the byte at `address`.
     pub fn index_of(&self, address: u32) -> Option<u8>
         ensures { result ≡ index_of (holds address 1) (opened self.now) }
     {
-        position(
-            &self.list[0..self.count],
-            &Holds {
-                from: address,
-                bytes: 1,
-            },
-        )
+        let i = self.last_below(address as u64 + 1)?;
+        self.list[i].holds(address, 1).then_some(i as u8)
     }
 
     // Whether the `bytes` from `address` lie in one open area.
@@ -69,7 +56,8 @@ impl Areas {
         ensures value { result ≡ lawful (opened self.now) address bytes }
         ensures within { result ≡ true → address + bytes ≤ 4096 }
     {
-        self.has_all(address, bytes)
+        self.last_below(address as u64 + 1)
+            .is_some_and(|i| self.list[i].holds(address, bytes))
     }
 
     // Opens an area, at its place by address.
@@ -78,16 +66,13 @@ impl Areas {
         ensures areas { opened self.new ≡ left result (inserted (area_of start size) (opened self.old)) (opened self.old) }
         ensures law { OnOk result (Added (opened self.old) (area_of start size) (opened self.new)) }
     {
-        self.check_open(start, size)?;
-        insert(
-            &mut self.list,
-            self.count,
-            Area {
-                start,
-                length: size,
-            },
-        );
-        self.count += 1;
+        let new = Area {
+            start,
+            length: size,
+        };
+        self.check_open(new)?;
+        let place = self.count_below(start as u64 + 1);
+        self.list.insert(place, new);
         Ok(())
     }
 
@@ -97,66 +82,46 @@ impl Areas {
         ensures areas { opened self.new ≡ left result (without start (opened self.old)) (opened self.old) }
         ensures within { IfOk result (λ x. (x.start ≡ start) × Within x) }
     {
-        match self.find(start) {
-            Some(area) => {
-                self.count = remove(&mut self.list, self.count, start);
-                Ok(area)
-            }
-            None => Err((26, 0)),
-        }
+        let i = self.index_at(start).ok_or((Rule::AreaOpen, 0))?;
+        Ok(self.list.remove(i as usize))
     }
 
-    // Whether there is an area of the number.
-    fn has(&self, i: u8) -> bool
-        ensures { result ≡ nat_lt i self.now.count }
+    // Whether the area may be opened.
+    fn check_open(&self, new: Area) -> Result<(), Refusal>
+        ensures answer { result ≡ open_answer (opened self.now) new.start new.length }
+        ensures room { OnOk result (length (opened self.now) < MOST) }
     {
-        (i as usize) < self.count
-    }
-
-    fn has_all(&self, address: u32, bytes: u32) -> bool
-        ensures { result ≡ lawful (opened self.now) address bytes }
-    {
-        let wanted = Holds {
-            from: address,
-            bytes,
-        };
-        any_passes(&self.list[0..self.count], &wanted)
-    }
-
-    // Whether an area may be opened.
-    fn check_open(&self, start: u32, size: u32) -> Result<(), Refusal>
-        ensures { result ≡ open_answer (opened self.now) start size }
-    {
-        if size == 0 || start as u64 + size as u64 > BYTES as u64 {
-            return Err((11, 0));
+        if new.length == 0 || new.end() > BYTES as u64 {
+            return Err((Rule::AreaExtent, 0));
         }
-        if self.is_crossed(start, size) {
-            return Err((24, 0));
+        if self.is_crossed(new) {
+            return Err((Rule::AreasApart, 0));
         }
-        if self.count == MOST {
-            return Err((25, 0));
+        if self.list.is_full() {
+            return Err((Rule::AreaRoom, 0));
         }
         Ok(())
     }
 
-    // Whether an open area shares a byte with the `bytes` from `address`.
-    fn is_crossed(&self, address: u32, bytes: u32) -> bool
-        ensures { result ≡ any (crosses address bytes) (opened self.now) }
+    // Whether an open area shares a byte with the new one.
+    fn is_crossed(&self, new: Area) -> bool
+        ensures { result ≡ any (crosses new.start new.length) (opened self.now) }
     {
-        let new = Crosses {
-            from: address,
-            bytes,
-        };
-        any_passes(&self.list[0..self.count], &new)
+        self.last_below(new.end())
+            .is_some_and(|i| self.list[i].crosses(new.start, new.length))
     }
 
-    // The area that begins at `start`.
-    fn find(&self, start: u32) -> Option<Area>
-        ensures { result ≡ found start (opened self.now) }
+    // The number of the last area that begins below `limit`.
+    fn last_below(&self, limit: u64) -> Option<usize>
+        ensures { MatchOption result (Parted limit (opened self.now) 0) (λ i. Parted limit (opened self.now) (i + 1)) }
     {
-        match self.index_at(start) {
-            Some(i) => self.area(i),
-            None => None,
-        }
+        self.count_below(limit).checked_sub(1)
+    }
+
+    // How many areas begin below `limit`.
+    fn count_below(&self, limit: u64) -> usize
+        ensures { Parted limit (opened self.now) result }
+    {
+        self.list.partition_point(|x| (x.start as u64) < limit)
     }
 }

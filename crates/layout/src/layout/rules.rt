@@ -1,29 +1,31 @@
-// What makes a field bad, one test a number.
+// What makes a field bad, one test a rule. Each is a struct, for the reason at `first::Test`.
+// Each test matches on the field: under `is_some_and` the check does not find what the closure decides.
 ghost use Rattle.std.specs.Option.{MatchOption};
 ghost use Rattle.layout.specs.Fields.{field_at};
 ghost use Rattle.layout.specs.Rules.{Common, Shared, Unfit};
 
+use super::reading::field_at;
 use crate::field::Field;
-use crate::layout::{Layout, field_at};
 use first::{Test, any_bad};
 
-// 9: there is no such letter, or the reset value is too large for it.
+// There is no such letter, or the reset value is too large for it.
 #[derive(Clone, Copy)]
-pub(crate) struct Unfits<'a> {
-    pub(crate) layout: Layout<'a>,
+pub(super) struct Unfits<'a> {
+    pub(super) body: &'a [u8],
+    pub(super) count: u32,
 }
 
 impl Test for Unfits<'_> {
-    ghost bad = { λ s. Unfit s.layout.body.now };
+    ghost bad = { λ s. Unfit s.body.now };
 
-    ghost places = { λ s. s.layout.count };
+    ghost places = { λ s. s.count };
 
     fn count(&self) -> u32 {
-        self.layout.count
+        self.count
     }
 
     fn fails(&self, place: u32) -> bool {
-        match field_at(self.layout.body, place) {
+        match field_at(self.body, place) {
             Some(field) => field.is_too_large(),
             None => true,
         }
@@ -55,23 +57,24 @@ impl Test for Meets<'_> {
     }
 }
 
-// 10: the field shares a byte with an earlier one.
+// The field shares a byte with an earlier one.
 #[derive(Clone, Copy)]
-pub(crate) struct Shares<'a> {
-    pub(crate) layout: Layout<'a>,
+pub(super) struct Shares<'a> {
+    pub(super) body: &'a [u8],
+    pub(super) count: u32,
 }
 
 impl Test for Shares<'_> {
-    ghost bad = { λ s. Shared s.layout.body.now };
+    ghost bad = { λ s. Shared s.body.now };
 
-    ghost places = { λ s. s.layout.count };
+    ghost places = { λ s. s.count };
 
     fn count(&self) -> u32 {
-        self.layout.count
+        self.count
     }
 
     fn fails(&self, place: u32) -> bool {
-        let body = self.layout.body;
+        let body = self.body;
         match field_at(body, place) {
             Some(field) => any_bad(&Meets {
                 body,

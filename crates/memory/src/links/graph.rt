@@ -13,7 +13,7 @@ use store::tags::{Cell, Kind};
 fn is_pointer(cell: Cell) -> bool
     ensures { result ≡ is_pointer cell }
 {
-    cell.kind.number() == Kind::Pointer.number() && cell.position == 0
+    cell.kind == Kind::Pointer && cell.position == 0
 }
 
 impl<C: Cells> Links<'_, C> {
@@ -22,15 +22,11 @@ impl<C: Cells> Links<'_, C> {
         requires { at < 4096 }
         ensures { result ≡ aims (linked C.Cells.cells self.now) at }
     {
-        match self.store.cell(at) {
-            Some(cell) => {
-                if is_pointer(cell) {
-                    self.areas.index_of(read(self.bytes, at as usize, 4))
-                } else {
-                    None
-                }
-            }
-            None => None,
+        let cell = self.store.cell(at)?;
+        if is_pointer(cell) {
+            self.areas.index_of(read(self.bytes, at as usize, 4))
+        } else {
+            None
         }
     }
 }
@@ -41,22 +37,15 @@ impl<C: Cells> Graph for Links<'_, C> {
     ghost leads = { λ s. leads_of (linked C.Cells.cells s) };
 
     fn slot_count(&self, node: u8) -> u32 {
-        match self.areas.area(node) {
-            Some(area) => area.length,
-            None => 0,
-        }
+        self.areas.area(node).map_or(0, |area| area.length)
     }
 
     fn slot(&self, node: u8, slot: u32) -> Option<u8> {
-        match self.areas.area(node) {
-            Some(area) => {
-                if slot < area.length {
-                    self.aim(area.start + slot)
-                } else {
-                    None
-                }
-            }
-            None => None,
+        let area = self.areas.area(node)?;
+        if slot < area.length {
+            self.aim(area.start + slot)
+        } else {
+            None
         }
     }
 }

@@ -4,9 +4,9 @@ ghost use Rattle.search.specs.Marks.{Clear, marked};
 ghost use Rattle.memory.specs.Links.{Reach, Shows, linked};
 
 use crate::links::Links;
+use refusal::{Refusal, Rule};
 use search::Marks;
 use store::halves::Cells;
-use store::tags::Refusal;
 
 // 1 for a node that is marked, or is the start.
 fn flag(marks: &Marks<'_>, from: u8, node: u8) -> u32
@@ -24,6 +24,7 @@ fn bits(marks: &Marks<'_>, from: u8, count: u8) -> u32
     requires { count ≤ 32 }
     ensures { Shows (λ (i : ℕ). (i == from) || marked marks.now.all.now i) count result }
 {
+    // A loop: in a fold the closure would have to know that each sum fits, which the invariant says here.
     let mut all = 0;
     for i in (0..count).rev() {
         all = all * 2 + flag(marks, from, i);
@@ -38,14 +39,11 @@ impl<C: Cells> Links<'_, C> {
         ensures answer { Reach (linked C.Cells.cells self.now) start (length marks.old) result }
         ensures clear { Clear marks.new }
     {
+        // Not by `lend`, which was tried: of a closure that holds this view, under a type parameter, a proof learns nothing.
         let mut marks = Marks::over(marks);
         marks.check_len()?;
-        match self.areas.index_at(start) {
-            Some(from) => {
-                marks.follow(self, from)?;
-                Ok(bits(&marks, from, self.areas.count()))
-            }
-            None => Err((26, 0)),
-        }
+        let from = self.areas.index_at(start).ok_or((Rule::AreaOpen, 0))?;
+        marks.follow(self, from)?;
+        Ok(bits(&marks, from, self.areas.count()))
     }
 }

@@ -41,6 +41,7 @@ impl Routine {
     }
 
     // The value that a step checks in an operand, 0 for A and 1 for B, if there is a check.
+    // The operand comes as its number, since a claim may have any.
     pub fn checked(&self, step: u16, operand: u8) -> Option<u32>
         ensures { result ≡ checked_at (steps_of self.now) step operand }
     {
@@ -63,22 +64,15 @@ impl Routine {
             value,
             below: self.text.len(),
         };
-        match first_bad(&setting) {
-            Some(step) => Some(step as u16),
-            None => None,
-        }
+        first_bad(&setting).map(|step| step as u16)
     }
 
     // The type of a value.
     pub fn value_type(&self, value: u32) -> Option<Scalar>
         ensures { Typed (steps_of self.now) value result }
     {
-        match self.setting(value) {
-            Some(step) => match self.text.step(step as u32).sets() {
-                Some((_, scalar)) => Some(scalar),
-                None => None,
-            },
-            None => None,
-        }
+        let step = self.setting(value)?;
+        let (_, scalar) = self.text.step(step as u32).sets()?;
+        Some(scalar)
     }
 }

@@ -1,5 +1,6 @@
 // Texts from bodies.
 ghost use Rattle.std.specs.Prelude.{◌≡◌, ◌<◌, ◌≤◌, length, MatchResult};
+ghost use Rattle.refusal.specs.declared.Rule.TheVariants.{RoutineLength as RoutineLengthRule};
 ghost use Rattle.first.specs.First.{Nowhere};
 ghost use Rattle.steps.specs.Format.{Spells, Decoded};
 ghost use Rattle.routine.specs.Flow.{step_at};
@@ -8,7 +9,9 @@ ghost use Rattle.routine.specs.Rules.{Malformed};
 ghost use Rattle.routine.specs.Text.{text_of};
 
 use crate::text::Text;
-use first::Refusal;
+use first::place_count;
+use refusal::{Refusal, Rule};
+use std::array;
 use steps::decode;
 use steps::step::Step;
 
@@ -16,6 +19,7 @@ use steps::step::Step;
 const STEP: usize = 16;
 
 impl Text {
+    #[tactic(auto, using(crate::proofs::Texts::text_length))]
     pub(crate) fn len(&self) -> u32
         ensures count { result ≡ length (text_of self.now) }
         ensures few { result ≤ 256 }
@@ -24,6 +28,7 @@ impl Text {
     }
 
     // Step `i`; past the last, a stop.
+    #[tactic(auto, using(crate::proofs::Texts::text_length, crate::proofs::Texts::text_step, crate::proofs::Texts::step_past))]
     pub(crate) fn step(&self, i: u32) -> Step
         ensures { result ≡ step_at (text_of self.now) i }
     {
@@ -35,36 +40,25 @@ impl Text {
     }
 }
 
-// The number of steps that a body has, or refusal 2.
+// The number of steps that a body has, or the refusal of its length.
 pub(crate) fn measure(body: &[u8]) -> Result<u16, Refusal>
-    ensures { MatchResult result (λ n. Measured body.now × (n ≡ count_of body.now)) (λ e. (Measured body.now → ⊥) × (e ≡ (2, 0))) }
+    ensures { MatchResult result (λ n. Measured body.now × (n ≡ count_of body.now)) (λ e. (Measured body.now → ⊥) × (e ≡ (RoutineLengthRule, 0))) }
 {
-    let count = body.len() / STEP;
-    if count < 1 || count > 256 || body.len() != STEP * count {
-        return Err((2, 0));
+    match place_count(body.len(), 0, STEP, 256) {
+        Some(count) => Ok(count as u16),
+        None => Err((Rule::RoutineLength, 0)),
     }
-    Ok(count as u16)
 }
 
 // Step `i` of a body, and none where its bytes, or what there is of them, are not those of a well-formed step.
-pub(crate) fn step_in(body: &[u8], i: u32) -> Option<Step>
+pub(crate) fn step_in(body: &[u8], i: usize) -> Option<Step>
     ensures { Decoded (part body.now i) result }
 {
-    let start = STEP * i as usize;
-    if body.len() < start + STEP {
+    if body.len() / STEP <= i {
         return None;
     }
+    let start = STEP * i;
     decode(&body[start..start + STEP])
-}
-
-fn formed_step(body: &[u8], i: u32) -> Step
-    requires { Malformed body.now i → ⊥ }
-    ensures { Spells (part body.now i) result }
-{
-    match step_in(body, i) {
-        Some(step) => step,
-        None => unreachable(),
-    }
 }
 
 // The steps of a body whose steps are all well formed.
@@ -74,9 +68,12 @@ pub(crate) fn read_text(body: &[u8], count: u16) -> Text
     requires formed { Nowhere (Malformed body.now) count }
     ensures { Written body.now (text_of result) }
 {
-    let mut steps = [Step::Stop; 256];
-    for i in 0..count {
-        steps[i as usize] = formed_step(body, i as u32);
+    Text {
+        steps: array::from_fn(
+            |i|
+                ensures { (Malformed body.entry.now i → ⊥) → Spells (part body.entry.now i) result }
+            { step_in(body, i).unwrap_or(Step::Stop) },
+        ),
+        count,
     }
-    Text { steps, count }
 }

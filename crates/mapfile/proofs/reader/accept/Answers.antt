@@ -8,7 +8,7 @@ returns c =
     inr (
       not_from_Decides _ c.is_unreadable.ensures c.if-is_unreadable.false,
       inr (
-        granted_nowhere _ _ _ c.in_ok-try_number.ensures.allows,
+        granted_nowhere _ _ _ c.in_ok-try_rule.ensures.allows,
         inr (not_from_Decides _ c.is_incomplete.ensures c.if-is_incomplete.false, refl),
       ),
     )

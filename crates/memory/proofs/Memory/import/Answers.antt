@@ -1,7 +1,7 @@
 use Rattle.std.proofs.Common.{◌≡◌, ℕ, List, Ok, sym, refl, ◌∙◌, subst}
 use Rattle.areas.specs.Calls.{opened}
 use Rattle.layout.specs.Fields.{count_of}
-use Rattle.layout.specs.Placing.{Inside, laid_cells}
+use Rattle.layout.specs.Placing.{Inside, Laid, laid_cells}
 use Rattle.layout.proofs.Answering.{granted_keeps as body_keeps}
 use Rattle.memory.specs.Bytes.{Bytes, held}
 use Rattle.memory.specs.Import.{Left, imports, laid_bytes}
@@ -19,7 +19,7 @@ write_fields-requires g c =
     let keeps = granted_keeps (opened s.areas) b (Ok tt) h.answer.allows refl in
     let inside = all-inside (opened s.areas) b (count_of b) s.areas.apart keeps.1 in
     let l = c.in_ok-layout.layout in
-    record { long = s.long; inside = subst (λ (x : List ℕ). Inside x l.count) (sym h.layout.0) (subst (Inside b) (sym h.layout.1) inside) }
+    subst (λ (x : List ℕ). Inside x l.count) (sym h.layout.0) (subst (Inside b) (sym h.layout.1) inside)
 
 pub returns : goal.returns
 returns g c =
@@ -33,7 +33,7 @@ returns g c =
     let bytes : held c.write_fields.new.bytes ≡ laid_bytes s.bytes b n = c.write_fields.ensures ∙ (λ i. laid_bytes s.bytes (h.layout.0 i) (h.layout.1 i)) in
     let cells : g.S.Cells.cells c.place.new.store ≡ laid_cells s.cells b n = c.place.ensures.cells ∙ (λ i. laid_cells s.cells (h.layout.0 i) (h.layout.1 i)) in
     let is = state_is _ (imports s b) bytes cells refl in
-    let laid = c.place.ensures.law b h.layout keeps.0 inside in
+    let laid = subst (λ (x : List ℕ). Laid s.cells x (g.S.Cells.cells c.place.new.store)) h.layout.0 c.place.ensures.law keeps.0 inside in
     record {
       answer = h.answer;
       left = is;

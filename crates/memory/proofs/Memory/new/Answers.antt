@@ -6,9 +6,6 @@ use Rattle.memory.proofs.Tying.{tied_new}
 use Rattle.memory.proofs.Reaching.{state_is, always_tied}
 use Rattle.memory.proofs.Memory.new.Goals as goal
 
-pub invariant_of-result : goal.invariant_of-result
-invariant_of-result g c = record { long = length-replicate {A = ℕ} 4096 c.unwritten.result }
-
 pub returns : goal.returns
 returns g c =
     let is = state_is _ _ (zeros_new 4096 c.unwritten.result c.unwritten.ensures) c.new.ensures c.new-2.ensures in

@@ -14,7 +14,7 @@ returns g c =
     let v = c.args.value in
     let k = c.args.kind in
     let h = c.if-not-is_accessible.ensures in
-    let now = state_is _ (writes s a n v k) c.write.ensures (c.place.ensures.left ∙ ap (λ x. put s.cells a x n) c.number.ensures) refl in
+    let now = state_is _ (writes s a n v k) c.write.ensures (c.place.ensures.left ∙ ap (λ x. put s.cells a x n) c.into.ensures) refl in
     record {
       answer = h.value;
       left = now ∙ ap (λ b. cond b (writes s a n v k) s) h.value;

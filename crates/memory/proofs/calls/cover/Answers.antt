@@ -1,12 +1,13 @@
-use Rattle.std.proofs.Common.{◌≡◌, ◌+◌, ap, ◌∙◌, add-one, arith}
-use Rattle.store.specs.Cells.{put}
+use Rattle.std.proofs.Common.{◌≡◌, ◌+◌, ap, ◌∙◌, refl, add-one, arith}
+use Rattle.store.specs.Cells.{placed}
 use Rattle.memory.proofs.Covering.{spread, covered}
 use Rattle.memory.proofs.calls.cover.Goals as goal
 
+pub invariant_of-lay : goal.invariant_of-lay
+invariant_of-lay g c = record { some = omega arith; within = omega (arith, c.requires.within); fits = rw c.requires.single refl }
+
 pub loop-i-preserved : goal.loop-i-preserved
-loop-i-preserved g c =
-    let a = c.args.at + c.loop-i.i in
-    rw add-one (c.place.ensures.left ∙ (λ i. put (c.loop-i.invariant i) a (c.number.ensures i) 1))
+loop-i-preserved g c = rw add-one (c.lay.ensures ∙ ap (λ m. placed m (c.args.at + c.loop-i.i) c.args.kind 1) c.loop-i.invariant)
 
 pub returns : goal.returns
 returns g c =

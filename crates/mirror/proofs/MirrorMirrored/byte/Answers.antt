@@ -1,15 +1,17 @@
-use Rattle.std.proofs.Common.{◌≡◌, ℕ, ◌+◌, ◌*◌, Some, ap, ◌∙◌, arith}
-use Rattle.std.proofs.lemmas.Bool.{lt-ltb}
+use Rattle.std.proofs.Common.{◌≡◌, ℕ, ◌+◌, ◌*◌, cond, ltb, Some, None, ap, ◌∙◌, rules}
+use Rattle.store.proofs.Slices.{copied_is}
 use Rattle.mirror.specs.Nibbles.{nibbles, nibble_of, decoded}
 use Rattle.mirror.proofs.Decoding.{byte-made}
 use Rattle.mirror.proofs.MirrorMirrored.byte.Goals as goal
 
-pub returns-then-index : goal.returns-then-index
-returns-then-index c =
-    let bytes = c.args.self.now.bytes in
+pub returns : goal.returns
+returns c =
+    let s = c.args.self.now in
+    let bytes = s.row.bytes in
     let i = c.args.index in
     let m = decoded (nibbles bytes) in
-    let low : nibbles bytes (2 * i) ≡ nibble_of (m (2 * i)) = c.args.self.now.exact (2 * i) in
-    let high : nibbles bytes (2 * i + 1) ≡ nibble_of (m (2 * i + 1)) = c.args.self.now.exact (2 * i + 1) in
-    rw (lt-ltb i 2048 (omega arith))
-    (ap Some (byte-made bytes i ∙ ap (λ (x : ℕ × ℕ). x.0 + 16 * x.1) (λ t. (low t, high t))))
+    let low : nibbles bytes (2 * i) ≡ nibble_of (m (2 * i)) = s.exact (2 * i) in
+    let high : nibbles bytes (2 * i + 1) ≡ nibble_of (m (2 * i + 1)) = s.exact (2 * i + 1) in
+    c.copied.ensures
+    ∙ copied_is bytes 2048 i 0 c.get.result (search rules) c.get.ensures.lookup
+    ∙ ap (λ x. cond (ltb i 2048) (Some x) None) (byte-made bytes i ∙ ap (λ (x : ℕ × ℕ). x.0 + 16 * x.1) (λ t. (low t, high t)))

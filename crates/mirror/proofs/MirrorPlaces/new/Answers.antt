@@ -1,5 +1,4 @@
-use Rattle.std.proofs.Common.{ℕ, sym, ap, ◌∙◌, subst}
-use lib.ListN.{length-replicate}
+use Rattle.std.proofs.Common.{◌≡◌, ℕ, sym, ap, ◌∙◌, subst, ◌+◌, ◌*◌, arith}
 use Rattle.store.specs.Cells.{Whole}
 use Rattle.store.proofs.Placings.{whole-empty}
 use Rattle.mirror.specs.Nibbles.{nibble_of}
@@ -8,13 +7,10 @@ use Rattle.mirror.proofs.MirrorPlaces.new.Goals as goal
 
 pub invariant_of-result : goal.invariant_of-result
 invariant_of-result c =
-    let z = c.unused.ensures in
-    let new = decoded-zero 2048 c.unused.result z in
-    record {
-      long = length-replicate {A = ℕ} 2048 c.unused.result;
-      ok = subst Whole (sym new) whole-empty;
-      exact = λ i. nibbles-zero 2048 c.unused.result i z ∙ sym (ap (λ m. nibble_of (m i)) new);
-    }
+    let b = c.from-nibble.result + 16 * c.from-nibble.result in
+    let z : b ≡ 0 = omega (arith, c.from-nibble.ensures) in
+    let new = decoded-zero 2048 b z in
+    record { ok = subst Whole (sym new) whole-empty; exact = λ i. nibbles-zero 2048 b i z ∙ sym (ap (λ m. nibble_of (m i)) new) }
 
 pub returns : goal.returns
-returns c = decoded-zero 2048 c.unused.result c.unused.ensures
+returns c = let b = c.from-nibble.result + 16 * c.from-nibble.result in let z : b ≡ 0 = omega (arith, c.from-nibble.ensures) in decoded-zero 2048 b z

@@ -1,15 +1,22 @@
-use Rattle.std.proofs.Common.{◌+◌, sym, add-one}
-use Rattle.std.proofs.lemmas.Bool.{and_from}
+use Rattle.std.specs.Bool.{MatchBool}
+use Rattle.std.proofs.Common.{rules, ◌≡◌, ℕ, ◌+◌, ◌<◌, Bool, true, false, sym, refl, arith}
+use Rattle.std.proofs.lemmas.Iterator.{cases_from_all, YieldsList-from_range}
+use Rattle.store.specs.declared.tags.Kind.{Kind}
+use Rattle.store.specs.Cells.{Memory}
 use Rattle.store.specs.Reading.{same, all_of}
-use Rattle.store.proofs.Readings.{not-all}
+use Rattle.store.proofs.Ranges.{all_below}
+use Rattle.store.proofs.Readings.{each-all, not-all}
 use Rattle.store.proofs.reading.all_of.Goals as goal
 
-pub returns-then-not-is_kind : goal.returns-then-not-is_kind
-returns-then-not-is_kind g c =
-    let m = g.C.Cells.cells c.args.store.now in
-    sym (not-all m c.args.kind c.args.address c.args.size c.loop-i.i c.loop-i-test.true (sym c.if-not-is_kind.ensures))
+told : (m : Memory) (k : Kind) (a n : ℕ) (r : Bool)
+    → MatchBool r ((j : ℕ) → j < n → same (m (a + j)).kind k ≡ true) ((j : ℕ) × (j < n) × (same (m (a + j)).kind k ≡ false)) → r ≡ all_of m k a n
+told m k a n true h = sym (each-all m k a n h)
+told m k a n false h = sym (not-all m k a n h.0 h.1 h.2)
 
-pub loop-i-preserved : goal.loop-i-preserved
-loop-i-preserved g c =
+pub returns : goal.returns
+returns g c =
     let m = g.C.Cells.cells c.args.store.now in
-    rw add-one (and_from (all_of m c.args.kind c.args.address c.loop-i.i) (same (m (c.args.address + c.loop-i.i)).kind c.args.kind) c.loop-i.invariant (sym c.if-not-is_kind.ensures))
+    told m c.args.kind c.args.address c.args.size c.all.result
+    (all_below c.args.size c.all.result (λ j. same (m (c.args.address + j)).kind c.args.kind ≡ true) (λ j. same (m (c.args.address + j)).kind c.args.kind ≡ false)
+    (cases_from_all _ _ _ (λ j. same (m (c.args.address + j)).kind c.args.kind ≡ true) (λ j. same (m (c.args.address + j)).kind c.args.kind ≡ false) c.all.ensures.ran
+    (YieldsList-from_range 0 c.args.size c.args.size refl (omega arith)) (λ x q k. search rules) (λ x q k. search rules)))

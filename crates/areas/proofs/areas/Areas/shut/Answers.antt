@@ -1,20 +1,31 @@
-use Rattle.std.proofs.Common.{◌≡◌, true, not, sym, subst, arith, rules}
+use Rattle.std.proofs.Common.{◌≡◌, true, not, sym, refl, subst, arith, rules, ◌∙◌}
 use Rattle.areas.specs.Area.{begins}
 use Rattle.areas.specs.Ordered.{ordered}
 use Rattle.areas.specs.Calls.{opened}
 use Rattle.areas.proofs.Order.{kept-ordered, found_within}
+use Rattle.areas.proofs.Places.{index_within, found_none, found_some}
+use Rattle.areas.proofs.Searches.{remove_at}
 use Rattle.areas.proofs.areas.Areas.shut.Goals as goal
+
+pub returns-in_err-i-clause-answer : goal.returns-in_err-i-clause-answer
+returns-in_err-i-clause-answer c = rw (found_none c.args.start (opened c.args.self.now) (sym c.in_err-i.ensures.ok_part ∙ c.index_at.ensures)) (search rules)
+
+pub remove-requires : goal.remove-requires
+remove-requires c = (omega arith, index_within (begins c.args.start) (opened c.args.self.now) _ (sym c.in_ok-i.ensures.ok_part ∙ c.index_at.ensures))
 
 pub invariant_of-self : goal.invariant_of-self
 invariant_of-self c =
     let s = c.args.self.now in
-    record {
-      long = search rules;
-      room = omega (arith, s.room, c.remove-self.ensures.fewer);
-      apart = subst (λ l. ordered l ≡ true) (sym c.remove-self.ensures.rest) (kept-ordered (λ x. not (begins c.args.start x)) (opened s) s.apart);
-    }
+    let e = c.remove.ensures.items ∙ remove_at c.args.start (opened s) _ s.apart (sym c.in_ok-i.ensures.ok_part ∙ c.index_at.ensures) in
+    record { room = omega (arith, s.room, c.remove.ensures.len); apart = subst (λ l. ordered l ≡ true) (sym e) (kept-ordered (λ x. not (begins c.args.start x)) (opened s) s.apart) }
 
-pub returns-in-Some : goal.returns-in-Some
-returns-in-Some c =
+pub returns : goal.returns
+returns c =
     let s = c.args.self.now in
-    record { answer = search rules; areas = search rules; within = found_within c.args.start (opened s) c.in-Some.area s.apart c.in-Some.ensures }
+    let first = sym c.in_ok-i.ensures.ok_part ∙ c.index_at.ensures in
+    let found = found_some c.args.start (opened s) _ c.remove.result first c.remove.ensures.value in
+    record {
+      answer = rw found refl;
+      areas = c.remove.ensures.items ∙ remove_at c.args.start (opened s) _ s.apart first;
+      within = found_within c.args.start (opened s) c.remove.result s.apart (sym found);
+    }

@@ -10,11 +10,7 @@ loop-k-preserved g c =
 pub returns : goal.returns
 returns g c =
     let m = g.S.Cells.cells c.args.store.now in
-    let o = g.S.Cells.cells c.loop-k.store in
     let l = c.args.self.now in
     let all : c.loop-k.k ≡ l.count = omega arith in
-    let cells : o ≡ laid_cells m l.body.now l.count = c.loop-k.invariant ∙ ap (laid_cells m l.body.now) all in
-    record {
-      cells = cells;
-      law = λ b r. subst (Laid m b) (sym (cells ∙ (λ i. laid_cells m (r.0 i) (r.1 i)))) (body_laid m (g.met.S.Cells.whole c.args.store.now) b);
-    }
+    let cells = c.loop-k.invariant ∙ ap (laid_cells m l.body.now) all in
+    record { cells = cells; law = subst (Laid m l.body.now) (sym (cells ∙ ap (laid_cells m l.body.now) l.whole)) (body_laid m (g.met.S.Cells.whole c.args.store.now) l.body.now) }

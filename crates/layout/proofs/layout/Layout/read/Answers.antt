@@ -1,17 +1,9 @@
-use Rattle.std.proofs.Common.{◌≡◌, ℕ, List, IfOk, Ok, Err, Result, sym, refl, ap, ◌∙◌, subst}
+use Rattle.std.proofs.Common.{Ok, Err, refl, ap, ◌∙◌}
 use Rattle.std.proofs.lemmas.Result.{err_from_is_err_and}
-use Rattle.first.specs.First.{Only}
-use Rattle.layout.specs.declared.layout.Layout.{Layout}
-use Rattle.layout.specs.Rules.{Allowed, answer_of}
+use Rattle.refusal.specs.declared.Rule.TheVariants.{LayoutLength}
+use Rattle.first.proofs.Firsts.{refused_so, grants_nothing}
 use Rattle.layout.proofs.Answering.{answer-length, answer_fields, granted_keeps, field_known}
 use Rattle.layout.proofs.layout.Layout.read.Goals as goal
-
-refusal : (b : List ℕ) (r : Result Layout (ℕ × ℕ)) (e : ℕ × ℕ) → r ≡ Err e → Only (Allowed b) (Err e) → Only (Allowed b) (answer_of r)
-refusal b r e is h = subst (λ x. Only (Allowed b) (answer_of x)) (sym is) h
-
--- a refusal makes nothing
-nothing : (P : Layout → Type 0) (r : Result Layout (ℕ × ℕ)) (e : ℕ × ℕ) → r ≡ Err e → IfOk r P
-nothing P r e is = subst (λ x. IfOk x P) (sym is) tt
 
 pub returns-in_err-count : goal.returns-in_err-count
 returns-in_err-count c =
@@ -19,7 +11,7 @@ returns-in_err-count c =
     let p = err_from_is_err_and c.from_residual.result c.from_residual.ensures.1 in
     let h = c.in_err-count.ensures in
     let is = p.1 ∙ ap Err (p.2 ∙ h.1) in
-    record { answer = refusal b _ (8, 0) is (answer-length b h.0); layout = nothing _ _ (8, 0) is; fields = nothing _ _ (8, 0) is }
+    record { answer = refused_so _ (LayoutLength, 0) is (answer-length b h.0); layout = grants_nothing _ _ (LayoutLength, 0) is; fields = grants_nothing _ _ (LayoutLength, 0) is }
 
 pub returns-in_err-try_two : goal.returns-in_err-try_two
 returns-in_err-try_two c =
@@ -29,9 +21,9 @@ returns-in_err-try_two c =
     let e = c.in_err-try_two.field-0.0 in
     let is = p.1 ∙ ap Err p.2 in
     record {
-      answer = refusal b _ e is (answer_fields b c.in_ok-count.count m.1 m.0 (Err e) c.in_err-try_two.ensures);
-      layout = nothing _ _ e is;
-      fields = nothing _ _ e is;
+      answer = refused_so _ e is (answer_fields b c.in_ok-count.count m.1 m.0 (Err e) c.in_err-try_two.ensures);
+      layout = grants_nothing _ _ e is;
+      fields = grants_nothing _ _ e is;
     }
 
 pub returns : goal.returns

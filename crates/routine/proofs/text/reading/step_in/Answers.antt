@@ -4,8 +4,8 @@ use Rattle.steps.proofs.Spelling.{decoded-none}
 use Rattle.routine.proofs.Texts.{part_short}
 use Rattle.routine.proofs.text.reading.step_in.Goals as goal
 
-pub returns-then-body-start : goal.returns-then-body-start
-returns-then-body-start c = decoded-none _ _ refl (part_short c.args.body.now c.args.i (omega arith))
+pub returns-then-body-i : goal.returns-then-body-i
+returns-then-body-i c = decoded-none _ _ refl (part_short c.args.body.now c.args.i (omega arith))
 
 pub returns : goal.returns
 returns c =

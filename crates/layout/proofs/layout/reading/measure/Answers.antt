@@ -1,0 +1,6 @@
+use Rattle.std.proofs.Common.{refl, arith}
+use Rattle.layout.specs.Fields.{count_of}
+use Rattle.layout.proofs.layout.reading.measure.Goals as goal
+
+pub returns-in-None : goal.returns-in-None
+returns-in-None c = (λ m. c.in-None.ensures (count_of c.args.body.now) (record { sized = omega arith; some = m.0; few = m.1; whole = m.2 }), refl)

@@ -1,4 +1,0 @@
-use Rattle.mirror.proofs.+position.Given as goal
-
-abbrev pub decreases-position : goal.decreases-position
-decreases-position l = l.i
