@@ -1,4 +1,4 @@
-use Rattle.std.proofs.Common.{ap, ◌∙◌}
+use Rattle.std.proofs.Common.{◌∙◌}
 use Rattle.mapfile.specs.Files.{body_at}
 use Rattle.mapfile.proofs.Reading.{the_body}
 use Rattle.mapfile.proofs.map_file.MapFile.body_under.Goals as goal
