@@ -4,7 +4,7 @@
 use drawing::record::Record;
 use mapfile::{LONGEST, MapFile, Section};
 use mirror::Mirror;
-use refusal::Refusal;
+use refusal::{Refusal, numbered};
 use std::io;
 use std::io::Read;
 use store::halves::{Cells, Places};
@@ -80,7 +80,10 @@ fn run(rt: &HostRuntime) -> anyhow::Result<()> {
     rt.stdin().take(MOST).read_to_end(&mut file)?;
     match show_all(rt, file.as_slice()) {
         Ok(()) => {}
-        Err(Halt::Refused((rule, place))) => println!(rt; "refused {rule} {place}")?,
+        Err(Halt::Refused(refusal)) => {
+            let (number, place) = numbered(refusal);
+            println!(rt; "refused {number} {place}")?;
+        }
         Err(Halt::Failed(error)) => return Err(error.into()),
     }
     Ok(())
