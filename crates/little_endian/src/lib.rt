@@ -7,7 +7,8 @@ ghost use Rattle.little_endian.specs.Numbers.{byte, two, four};
 pub fn byte_at(bytes: &[u8], i: usize) -> u8
     ensures { result ≡ byte bytes.now i }
 {
-    bytes.get(i).copied().unwrap_or(0)
+    // By a test, so that an edit of the byte and one of what lies past the end are told apart.
+    if i < bytes.len() { bytes[i] } else { 0 }
 }
 
 // The byte `k` above byte `i`. Where the sum has no number, no slice has the byte.

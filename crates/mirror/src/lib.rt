@@ -3,6 +3,7 @@
 
 ghost use Rattle.std.specs.Prelude.{◌≡◌, ℕ, ◌+◌, ◌<◌, true};
 ghost use Rattle.store.specs.Cells.{Whole, kind_of, is_size, sound};
+ghost use Rattle.store.specs.Placing.{span_in};
 ghost use Rattle.mirror.specs.Nibbles.{nibbles, nibble_of, log2, byte_answer, nibble_answer, size_from, decoded};
 
 mod nibbles;
@@ -97,6 +98,15 @@ impl Mirror {
     }
 }
 
+impl Mirror {
+    // The bytes that a placing changes.
+    fn span(&self, placing: Placing) -> (u32, u32)
+        ensures { result ≡ span_in (decoded (nibbles self.now.row.bytes)) placing }
+    {
+        placing.span_in(self)
+    }
+}
+
 impl Cells for Mirror {
     ghost cells = { λ s. decoded (nibbles s.row.bytes) };
 
@@ -122,7 +132,7 @@ impl Places for Mirror {
     }
 
     fn lay(&mut self, placing: Placing) {
-        let (low, high) = placing.span_in(self);
+        let (low, high) = self.span(placing);
         let row = &mut self.row;
         // By address: two nibbles share a byte, so that no slice has one in each place.
         for i in low..high {
@@ -133,6 +143,6 @@ impl Places for Mirror {
 
 impl Mirrored for Mirror {
     fn byte(&self, index: u32) -> Option<u8> {
-        self.row.bytes.get(index as usize).copied()
+        self.row.byte(index as usize)
     }
 }

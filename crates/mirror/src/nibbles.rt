@@ -1,5 +1,5 @@
 // A row of nibbles.
-ghost use Rattle.std.specs.Prelude.{◌≡◌, ℕ, ◌<◌, ◌≤◌, if◌then◌else◌, nat_eq};
+ghost use Rattle.std.specs.Prelude.{◌≡◌, ℕ, ◌<◌, ◌≤◌, if◌then◌else◌, nat_eq, nat_lt, Some, None, slice_index};
 ghost use Rattle.mirror.specs.Nibbles.{nibbles, place_in};
 
 // A nibble for each byte of memory, two to a byte: that of an even address in the low half.
@@ -9,6 +9,17 @@ pub(crate) struct Nibbles {
 }
 
 impl Nibbles {
+    // A byte of the row, and none past its end.
+    pub(crate) fn byte(&self, index: usize) -> Option<u8>
+        ensures { result ≡ (if nat_lt index 2048 then Some (slice_index self.now.bytes index) else None) }
+    {
+        if index < self.bytes.len() {
+            Some(self.bytes[index])
+        } else {
+            None
+        }
+    }
+
     // The nibble of an address, and 0 past the end.
     pub(crate) fn get(&self, i: usize) -> u8
         ensures value { result ≡ nibbles self.now.bytes i }

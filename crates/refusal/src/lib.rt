@@ -1,13 +1,13 @@
 // Why a call is refused.
 #![tactic(auto)]
 
-ghost use Rattle.std.specs.Prelude.{◌≡◌};
+ghost use Rattle.std.specs.Prelude.{◌≡◌, Some, decimal};
 ghost use Rattle.refusal.specs.Refusals.{number_of};
 
 use std::fmt;
 
 // A rule that refuses what breaks it. Each has a number, by which callers and the output know it.
-#[derive(Clone, Copy, PartialEq, Eq, Debug)]
+#[derive(Clone, Copy, PartialEq, Eq, PartialOrd, Ord, Hash, Debug)]
 pub enum Rule {
     // A map file: its header, its entries, and what they name.
     MapFile = 1,
@@ -56,7 +56,10 @@ impl From<Rule> for u8 {
     }
 }
 
+// The rule's number.
 impl fmt::Display for Rule {
+    ghost output = { λ rule. Some (decimal (number_of rule)) };
+
     fn fmt<W: fmt::Write>(&self, f: &mut fmt::Formatter<W>) -> fmt::Result {
         let number = u8::from(*self);
         write!(f, "{number}")

@@ -11,7 +11,7 @@ ghost use Rattle.routine.specs.Text.{text_of};
 use crate::flow::{Flow, Setters, either, sets_value};
 use crate::text::{Text, step_in};
 use first::{Test, any_bad};
-use search::{follow_unstopped, is_marked};
+use search::NodeGuard;
 use steps::step::Takes;
 use store::scalars::Scalar;
 
@@ -188,8 +188,9 @@ fn reaches_unset(text: &Text, value: u32, to: u8) -> bool
     ensures { Decides result (Unstopped (Edge two_slots (leads_in (text_of text.now))) (λ i. is_set value (set_by (step_at (text_of text.now) i))) 0 to) }
 {
     let mut marks = [0; 256];
-    follow_unstopped(&Flow { text }, &Setters { text, value }, 0, &mut marks);
-    is_marked(&marks, to)
+    let mut guard = NodeGuard::over(&mut marks);
+    guard.follow_unstopped(&Flow { text }, &Setters { text, value }, 0);
+    guard.is_marked(to)
 }
 
 // Whether a path leads from step 0 to step `to` with the setting of the value nowhere before its end.

@@ -40,6 +40,11 @@ Lent call old new r = MatchResult r
     (λ x. (256 ≤ length old) × ((left : List ℕ) × call x left × (new ≡ left ++ drop 256 old)))
     (λ e. Few (length old) e × (new ≡ old))
 
+-- An answer that is found with enough marks, one of those that may be given. Refused, the marks are as they were.
+abbrev pub Given : {A : Type 0} → (A → Type 0) → List ℕ → List ℕ → Result A Refusal → Type 0
+Given gives old new (Ok x) = (256 ≤ length old) × gives x
+Given gives old new (Err e) = Few (length old) e × (new ≡ old)
+
 -- The answer to whether there is a path, found with n marks.
 abbrev pub Answered : Type 0 → ℕ → Result Bool Refusal → Type 0
 Answered path n (Ok b) = (256 ≤ n) × Decides b path

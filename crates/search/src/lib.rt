@@ -5,7 +5,7 @@ ghost use Rattle.std.specs.Prelude.{◌≡◌, ℕ, ◌+◌, ◌<◌, ◌≤◌,
 ghost use Rattle.std.specs.Fn.{FnOnceReturnsAtMut};
 ghost use Rattle.search.specs.Paths.{Edge, Walk, Unstopped};
 ghost use Rattle.search.specs.Stops.{open_slots};
-ghost use Rattle.search.specs.Marks.{Clear, marked, Reached, Enough, Lent, Searched, Answered};
+ghost use Rattle.search.specs.Marks.{Clear, marked, Reached, Enough, Lent, Searched, Given, Answered};
 
 use refusal::{Refusal, Rule};
 
@@ -42,9 +42,19 @@ pub trait Stops {
         ensures { result ≡ stop self.now node };
 }
 
+// Work that is done by searches. What it answers is a proposition, since nothing is known of a closure but what its calls give.
+pub trait Searches {
+    type Answer;
+
+    ghost gives: { Self → Self.Answer → Type 0 };
+
+    fn answer(&self, guard: &mut NodeGuard) -> Self::Answer
+        ensures { gives self.now result };
+}
+
 // A guard of the marks that a caller lends for searches. Its end zeroes every one of them,
 // whatever they held, however many there are, and whichever way leads out.
-// A search needs a guard, so none leaves marks behind. `named` says that the guard still holds the marks it was made over:
+// A search needs a guard, this or the one below, so none leaves marks behind. `named` says that the guard still holds the marks it was made over:
 // like `size`, it speaks of two states, so that no field of the guard could say it for all methods.
 pub struct Marks<'a> {
     all: &'a mut [u8],
@@ -80,9 +90,19 @@ impl Marks<'_> {
         }
     }
 
+    // What the work answers, with one mark for each node. What the marks hold afterwards is left open, until the guard ends.
+    // Refused where there are fewer marks than nodes; then they are as they were.
+    pub fn search<W: Searches>(&mut self, work: &W) -> Result<W::Answer, Refusal>
+        ensures answer { Given (W.Searches.gives work.now) self.old.all.now self.new.all.now result }
+        ensures size { length self.new.all.now ≡ length self.old.all.now }
+        ensures named { self.new.all.ghost_name ≡ self.old.all.ghost_name }
+    {
+        search(self.all, work)
+    }
+
     // Lends one mark for each node to `f`, and gives back what it returns.
     // Refused where there are fewer marks than nodes; then they are as they were.
-    pub fn lend<R, F: FnOnce(&mut NodeMarks) -> R>(&mut self, f: F) -> Result<R, Refusal>
+    fn lend<R, F: FnOnce(&mut NodeMarks) -> R>(&mut self, f: F) -> Result<R, Refusal>
         requires { F.IsAlwaysCallable f }
         ensures answer { Lent (FnOnceReturnsAtMut F.FnOnce f (take 256 self.old.all.now)) self.old.all.now self.new.all.now result }
         ensures size { length self.new.all.now ≡ length self.old.all.now }
@@ -126,6 +146,17 @@ impl Marks<'_> {
     }
 }
 
+// What `Marks::search` does with the slice of its guard.
+fn search<W: Searches>(all: &mut [u8], work: &W) -> Result<W::Answer, Refusal>
+    ensures answer { Given (W.Searches.gives work.now) all.old all.new result }
+    ensures size { length all.new ≡ length all.old }
+{
+    match all.first_chunk_mut() {
+        Some(marks) => Ok(work.answer(&mut NodeGuard::over(marks))),
+        None => Err(FEW_MARKS),
+    }
+}
+
 // What `Marks::lend` does with the slice of its guard: a proof needs to know no more of a guard than that.
 fn lend<R, F: FnOnce(&mut NodeMarks) -> R>(all: &mut [u8], f: F) -> Result<R, Refusal>
     requires { F.IsAlwaysCallable f }
@@ -137,26 +168,69 @@ fn lend<R, F: FnOnce(&mut NodeMarks) -> R>(all: &mut [u8], f: F) -> Result<R, Re
     }
 }
 
-// Marks exactly the nodes to which a path leads from `from`, whatever the marks held.
+// Marks exactly the nodes to which a path leads from `from`, whatever the marks held. Only a guard may call it.
 #[tactic(auto, using(crate::proofs::Filling::clear_zeros))]
-pub fn follow<G: Graph>(graph: &G, from: u8, marks: &mut NodeMarks)
+fn follow<G: Graph>(graph: &G, from: u8, marks: &mut NodeMarks)
     ensures { Reached (Walk (Edge (G.slots graph.now) (G.leads graph.now)) from) marks.new }
 {
     marks.fill(0);
     spread(graph, from, marks);
 }
 
-// As `follow`, for the paths with no stop between their ends.
-#[tactic(auto, using(crate::proofs::Stopping::unstopped))]
-pub fn follow_unstopped<G: Graph, S: Stops>(graph: &G, stops: &S, from: u8, marks: &mut NodeMarks)
-    ensures { Reached (Unstopped (Edge (G.Graph.slots graph.now) (G.Graph.leads graph.now)) (S.Stops.stop stops.now) from) marks.new }
-{
-    let graph = Open { graph, stops, from };
-    follow(&graph, from, marks);
+// A guard of marks that are enough for a search, as their type says: a search in them cannot fail.
+// Its end zeroes them, as that of `Marks` does, and `named` says what it says there.
+pub struct NodeGuard<'a> {
+    all: &'a mut NodeMarks,
+}
+
+impl Drop for NodeGuard<'_> {
+    #[tactic(auto, using(crate::proofs::Filling::clear_zeros))]
+    fn drop(self)
+        ensures { Clear self.exit.0.now }
+    {
+        let NodeGuard { all: nodes } = self;
+        nodes.fill(0);
+    }
+}
+
+impl<'a> NodeGuard<'a> {
+    pub fn over(all: &'a mut NodeMarks) -> NodeGuard<'a>
+        ensures same { result.all.now ≡ all.old }
+        ensures named { result.all.ghost_name ≡ all.entry.ghost_name }
+    {
+        NodeGuard { all }
+    }
+}
+
+impl NodeGuard<'_> {
+    // Marks exactly the nodes to which a path leads from `from`, whatever the marks held.
+    pub fn follow<G: Graph>(&mut self, graph: &G, from: u8)
+        ensures reached { Reached (Walk (Edge (G.slots graph.now) (G.leads graph.now)) from) self.new.all.now }
+        ensures named { self.new.all.ghost_name ≡ self.old.all.ghost_name }
+    {
+        follow(graph, from, self.all);
+    }
+
+    // As `follow`, for the paths with no stop between their ends.
+    #[tactic(auto, using(crate::proofs::Stopping::unstopped))]
+    pub fn follow_unstopped<G: Graph, S: Stops>(&mut self, graph: &G, stops: &S, from: u8)
+        ensures reached { Reached (Unstopped (Edge (G.Graph.slots graph.now) (G.Graph.leads graph.now)) (S.Stops.stop stops.now) from) self.new.all.now }
+        ensures named { self.new.all.ghost_name ≡ self.old.all.ghost_name }
+    {
+        let graph = Open { graph, stops, from };
+        self.follow(&graph, from);
+    }
+
+    // Whether a node is marked.
+    pub fn is_marked(&self, node: u8) -> bool
+        ensures { result ≡ marked self.now.all.now node }
+    {
+        is_marked(self.all, node)
+    }
 }
 
 // Whether a node is marked.
-pub fn is_marked(marks: &NodeMarks, node: u8) -> bool
+fn is_marked(marks: &NodeMarks, node: u8) -> bool
     ensures { result ≡ marked marks.now node }
 {
     marks[node as usize] != 0

@@ -2,7 +2,7 @@ ghost use Rattle.std.specs.Prelude.{min, length, if◌then◌else◌, Some, None
 
 use crate::{Pair, link, reach};
 use refusal::{Refusal, numbered};
-use search::{Graph, Marks, Stops, reaches};
+use search::{Graph, Marks, NodeGuard, NodeMarks, Stops, reaches};
 use std::process::Abort;
 
 // A graph by the list of its edges, of which it takes the first 1,000: each node has a slot for every edge, and its own lead on.
@@ -202,4 +202,24 @@ fn one_guard_serves_many_questions(rt: HostRuntime) {
         near(0, 0, &mut [0xa5; 255]).map_err(numbered),
         Err((14, 0))
     );
+}
+
+// Two searches in marks that are enough: 1 leads on to 2, and is a stop in the second.
+fn search_twice(rt: &impl Abort, marks: &mut NodeMarks) {
+    let table = Table { edges: &EDGES };
+    let mut guard = NodeGuard::over(marks);
+    guard.follow(&table, 0);
+    assert!(rt; guard.is_marked(1));
+    assert!(rt; guard.is_marked(2));
+    assert!(rt; !guard.is_marked(0));
+    guard.follow_unstopped(&table, &At(1), 0);
+    assert!(rt; guard.is_marked(1));
+    assert!(rt; !guard.is_marked(2));
+}
+
+#[test]
+fn marks_that_are_enough_end_zero(rt: HostRuntime) {
+    let mut marks = [7; 256];
+    search_twice(&rt, &mut marks);
+    assert!(rt; all_zero(&marks));
 }

@@ -1,6 +1,7 @@
 // The 16 bytes of a step, and what makes a step well formed.
 ghost use Rattle.std.specs.Prelude.{◌≡◌, ◌^◌, ◌≤◌, Some, None, nat_lt};
 ghost use Rattle.steps.specs.Codes.{code_number};
+ghost use Rattle.steps.specs.Tables.{operands as operands_of};
 ghost use Rattle.steps.specs.Format.{letter_of, type_of, row as row_of, fields_of, form_of, bits_of, bytes_of, encoded, lettered, typed, numbered, fitting, both_fitting, formed};
 
 use crate::code::Code;
@@ -244,15 +245,22 @@ impl Step {
         }
     }
 
+    // Whether each literal fits the type of its operand.
+    fn has_fitting_literals(self) -> bool
+        ensures { result ≡ both_fitting (operands_of self) }
+    {
+        let (a, b) = self.operands();
+        a.is_none_or(Use::is_fitting) && b.is_none_or(Use::is_fitting)
+    }
+
     // Whether letter, value set and literals are ones that the step may have.
+    // The operands come last, and in a function of their own: taken at the beginning they are carried through all the tests.
     #[tactic(auto, unfolding(crate::specs::Format::formed))]
     pub fn is_formed(self) -> bool
         ensures { result ≡ formed self }
     {
-        let (a, b) = self.operands();
         self.is_typed()
             && self.sets().is_none_or(|(value, _)| value < VALUES)
-            && a.is_none_or(Use::is_fitting)
-            && b.is_none_or(Use::is_fitting)
+            && self.has_fitting_literals()
     }
 }

@@ -1,5 +1,5 @@
 -- The rules of tag stores. A store means a cell for each address; past its 4,096 bytes every cell is unallocated.
-use Rattle.std.specs.Prelude.{◌≡◌, ℕ, ◌+◌, ◌-◌, ◌≤◌, Bool, true, false, cond, not, ◌&&◌, ◌||◌, Some, None, Ok, Err, Option, Result, ◌==◌, nat_le, nat_lt}
+use Rattle.std.specs.Prelude.{◌≡◌, ℕ, ◌+◌, ◌-◌, ◌≤◌, Bool, true, false, cond, not, ◌&&◌, ◌||◌, List, codes, Some, None, Ok, Err, Option, Result, ◌==◌, nat_le, nat_lt}
 use Rattle.refusal.specs.declared.Rule.TheVariants.{Placing as PlacingRule}
 use Rattle.refusal.specs.Refusals.{Refusal}
 use Rattle.store.specs.declared.tags.Kind.{Kind}
@@ -38,6 +38,16 @@ abbrev pub kind_of : ℕ → Kind
 kind_of k =
     cond (k == 0) Unallocated (cond (k == 1) Uninitialized (cond (k == 2) Zero
     (cond (k == 3) Integral (cond (k == 4) Real (cond (k == 5) Pointer Torn)))))
+
+-- the word for a kind, as it is printed
+abbrev pub kind_word : Kind → List ℕ
+kind_word Unallocated = codes "unallocated"
+kind_word Uninitialized = codes "uninitialized"
+kind_word Zero = codes "zero"
+kind_word Integral = codes "integral"
+kind_word Real = codes "real"
+kind_word Pointer = codes "pointer"
+kind_word Torn = codes "torn"
 
 -- the answer to which kind has a number
 abbrev pub kind_answer : ℕ → Result Kind UnknownKind

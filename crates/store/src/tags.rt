@@ -1,6 +1,6 @@
 // The kind of an object, and the cell of a byte.
-ghost use Rattle.std.specs.Prelude.{◌≡◌};
-ghost use Rattle.store.specs.Cells.{kind_answer, number_of};
+ghost use Rattle.std.specs.Prelude.{◌≡◌, Some};
+ghost use Rattle.store.specs.Cells.{kind_answer, kind_word, number_of};
 
 use std::fmt;
 
@@ -51,7 +51,10 @@ impl TryFrom<u8> for Kind {
     }
 }
 
+// The kind's word.
 impl fmt::Display for Kind {
+    ghost output = { λ kind. Some (kind_word kind) };
+
     fn fmt<W: fmt::Write>(&self, f: &mut fmt::Formatter<W>) -> fmt::Result {
         f.write_str(match self {
             Kind::Unallocated => "unallocated",

@@ -57,5 +57,9 @@ pub fn place_and_read<S: Places>(
     ensures left { S.Cells.cells store.new ≡ put (S.Cells.cells store.old) address kind size }
 {
     store.place(address, kind, size)?;
-    kind_read(store, address, size).ok_or((Rule::Placing, 0))
+    // A match, so that an edit that answers another kind is refused for that.
+    match kind_read(store, address, size) {
+        Some(read) => Ok(read),
+        None => Err((Rule::Placing, 0)),
+    }
 }

@@ -1,5 +1,5 @@
 // Opening and shutting areas, and questions about them.
-ghost use Rattle.std.specs.Prelude.{◌≡◌, ◌+◌, ◌<◌, ◌≤◌, true, [], length, IfSome, IfOk, MatchOption, OnOk};
+ghost use Rattle.std.specs.Prelude.{◌≡◌, ◌+◌, ◌<◌, ◌≤◌, true, [], length, remove, slice_index_or, IfSome, IfOk, MatchOption, OnOk};
 ghost use Rattle.std.specs.List.{slice_get};
 ghost use Rattle.areas.specs.Area.{any, area_of, begins, crosses, holds, lawful};
 ghost use Rattle.areas.specs.Ordered.{Added, Parted, found, index_of, inserted, without};
@@ -10,6 +10,23 @@ use crate::area::Area;
 use arrayvec::ArrayVec;
 use refusal::{Refusal, Rule};
 use store::tags::BYTES;
+
+// Area `i` of a row, and none past the last.
+fn at(list: &ArrayVec<Area, MOST>, i: usize) -> Option<Area>
+    ensures { result ≡ slice_get list.now.items i }
+{
+    list.get(i).copied()
+}
+
+// Takes area `i` out, and leaves the others in their order.
+fn take_out(list: &mut ArrayVec<Area, MOST>, i: usize) -> Area
+    requires { i < length list.old.items }
+    ensures value { result ≡ slice_index_or list.old.items i result }
+    ensures items { list.new.items ≡ remove list.old.items i }
+    ensures fewer { length list.new.items + 1 ≡ length list.old.items }
+{
+    list.remove(i)
+}
 
 // A start and a size stay two parameters of what is public, as callers have them.
 impl Areas {
@@ -32,7 +49,7 @@ impl Areas {
         ensures value { result ≡ slice_get (opened self.now) i }
         ensures within { IfSome result Within }
     {
-        self.list.get(i as usize).copied()
+        at(&self.list, i as usize)
     }
 
     // The number of the area that begins at `start`.
@@ -83,7 +100,7 @@ impl Areas {
         ensures within { IfOk result (λ x. (x.start ≡ start) × Within x) }
     {
         let i = self.index_at(start).ok_or((Rule::AreaOpen, 0))?;
-        Ok(self.list.remove(i as usize))
+        Ok(take_out(&mut self.list, i as usize))
     }
 
     // Whether the area may be opened.

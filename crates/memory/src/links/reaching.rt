@@ -39,7 +39,7 @@ impl<C: Cells> Links<'_, C> {
         ensures answer { Reach (linked C.Cells.cells self.now) start (length marks.old) result }
         ensures clear { Clear marks.new }
     {
-        // Not by `lend`, which was tried: of a closure that holds this view, under a type parameter, a proof learns nothing.
+        // By the guard itself, whose search does not refuse after `check_len`: a work for `search` would be a type for this one call.
         let mut marks = Marks::over(marks);
         marks.check_len()?;
         let from = self.areas.index_at(start).ok_or((Rule::AreaOpen, 0))?;

@@ -10,7 +10,7 @@ use crate::flow::{Checkers, Flow, sets_value};
 use crate::routine::Routine;
 use crate::verdict::Verdict;
 use refusal::Refusal;
-use search::{Marks, NodeMarks, follow_unstopped, is_marked};
+use search::{Marks, NodeGuard, Searches};
 
 impl Routine {
     fn is_unsure_setting(&self, step: u8, value: u32) -> bool
@@ -21,26 +21,26 @@ impl Routine {
     }
 
     // Whether step `from` is an unsure setting of the value, with a path from there to step `to` on which no step between checks the value.
-    fn exposes(&self, from: u8, value: u32, to: u8, marks: &mut NodeMarks) -> bool
+    fn exposes(&self, from: u8, value: u32, to: u8, guard: &mut NodeGuard) -> bool
         ensures { Decides result (Exposes (steps_of self.now) value to from) }
     {
         if !self.is_unsure_setting(from, value) {
             return false;
         }
         let text = &self.text;
-        follow_unstopped(&Flow { text }, &Checkers { text, value }, from, marks);
-        is_marked(marks, to)
+        guard.follow_unstopped(&Flow { text }, &Checkers { text, value }, from);
+        guard.is_marked(to)
     }
 
     // Whether an unsure setting of the value has such a path to step `to`.
-    fn is_exposed(&self, value: u32, to: u8, marks: &mut NodeMarks) -> bool
+    fn is_exposed(&self, value: u32, to: u8, guard: &mut NodeGuard) -> bool
         ensures { Decides result ((i : ℕ) × Exposes (steps_of self.now) value to i) }
     {
         (0..self.text.len()).any(
             |from|
                 requires { from < 256 }
                 ensures { Decides result (Exposes (steps_of self.entry.now) value to from) }
-            { self.exposes(from as u8, value, to, marks) },
+            { self.exposes(from as u8, value, to, guard) },
         )
     }
 
@@ -52,14 +52,14 @@ impl Routine {
     }
 
     // The verdict on a check of the value.
-    fn judge(&self, step: u8, operand: u8, value: u32, marks: &mut NodeMarks) -> Verdict
+    fn judge(&self, step: u8, operand: u8, value: u32, guard: &mut NodeGuard) -> Verdict
         requires { checked_at (steps_of self.now) step operand ≡ Some value }
         ensures { Judged (steps_of self.now) step operand result }
     {
         if self.is_covered_by_a(step, operand, value) {
             return Verdict::LeftOut;
         }
-        if self.is_exposed(value, step, marks) {
+        if self.is_exposed(value, step, guard) {
             Verdict::BarePath
         } else {
             Verdict::LeftOut
@@ -67,14 +67,14 @@ impl Routine {
     }
 
     // The verdict, found with a mark for each step.
-    fn judged(&self, step: u16, operand: u8, marks: &mut NodeMarks) -> Verdict
+    fn judged(&self, step: u16, operand: u8, guard: &mut NodeGuard) -> Verdict
         ensures { Only (Judged (steps_of self.now) step operand) result }
     {
         if step as u32 >= self.text.len() {
             return Verdict::NoCheck;
         }
         match self.checked(step, operand) {
-            Some(value) => self.judge(step as u8, operand, value, marks),
+            Some(value) => self.judge(step as u8, operand, value, guard),
             None => Verdict::NoCheck,
         }
     }
@@ -87,6 +87,28 @@ impl Routine {
         ensures size { length guard.new.all.now ≡ length guard.old.all.now }
         ensures named { guard.new.all.ghost_name ≡ guard.old.all.ghost_name }
     {
-        guard.lend(|marks| self.judged(step, operand, marks))
+        guard.search(&Claim {
+            routine: self,
+            step,
+            operand,
+        })
+    }
+}
+
+// The claim on an operand of a step, whose verdict takes searches.
+#[derive(Clone, Copy)]
+struct Claim<'r> {
+    routine: &'r Routine,
+    step: u16,
+    operand: u8,
+}
+
+impl Searches for Claim<'_> {
+    type Answer = Verdict;
+
+    ghost gives = { λ c. Only (Judged (steps_of c.routine.now) c.step c.operand) };
+
+    fn answer(&self, guard: &mut NodeGuard) -> Verdict {
+        self.routine.judged(self.step, self.operand, guard)
     }
 }

@@ -4,8 +4,14 @@ use Rattle.refusal.specs.declared.Rule.TheVariants.{Placing}
 use Rattle.store_laws.proofs.Placements.{read_after}
 use Rattle.store_laws.proofs.place_and_read.Goals as goal
 
-pub returns-clause-answer : goal.returns-clause-answer
-returns-clause-answer g c =
+pub returns-in-Some-clause-answer : goal.returns-in-Some-clause-answer
+returns-in-Some-clause-answer g c =
     let h = read_after (g.S.Cells.cells c.args.store.now) (g.S.Cells.cells c.place.new.self) c.args.address c.args.kind c.args.size
     (g.met.S.Cells.whole c.args.store.now) c.in_ok-place.ensures.answer c.place.ensures.left in
-    c.ok_or.ensures.value ∙ ap (λ o. ok_or o (Placing, 0)) (c.kind_read.ensures ∙ h.1) ∙ rw h.0 refl
+    ap (λ o. ok_or o (Placing, 0)) (c.in-Some.ensures ∙ h.1) ∙ rw h.0 refl
+
+pub returns-in-None-clause-answer : goal.returns-in-None-clause-answer
+returns-in-None-clause-answer g c =
+    let h = read_after (g.S.Cells.cells c.args.store.now) (g.S.Cells.cells c.place.new.self) c.args.address c.args.kind c.args.size
+    (g.met.S.Cells.whole c.args.store.now) c.in_ok-place.ensures.answer c.place.ensures.left in
+    ap (λ o. ok_or o (Placing, 0)) (c.in-None.ensures ∙ h.1) ∙ rw h.0 refl

@@ -14,5 +14,5 @@ pub returns : goal.returns
 returns c =
     let r = steps_of c.args.self.now in
     let stop = λ (x : ℕ). checks_it c.args.value (step_at r x) in
-    let found = Decides-at {P = Unstopped (Edge two_slots (leads r)) stop c.args.from c.args.to} c.is_marked.result _ c.is_marked.ensures (decides_mark {path = Unstopped (Edge two_slots (leads r)) stop c.args.from} c.follow_unstopped.ensures c.args.to) in
+    let found = Decides-at {P = Unstopped (Edge two_slots (leads r)) stop c.args.from c.args.to} c.is_marked.result _ c.is_marked.ensures (decides_mark {path = Unstopped (Edge two_slots (leads r)) stop c.args.from} c.follow_unstopped.ensures.reached c.args.to) in
     decides_given c.is_marked.result (c.is_unsure_setting.ensures.0 c.if-not-is_unsure_setting.false) (decides_next r c.is_marked.result stop c.args.from c.args.to found)

@@ -1,5 +1,6 @@
-use Rattle.std.proofs.Common.{◌≡◌, ℕ, List, Decides, refl, ap, ◌∙◌, subst, arith}
+use Rattle.std.proofs.Common.{◌≡◌, ℕ, Decides, refl, ap, ◌∙◌, subst, arith}
 use Rattle.std.specs.Borrow.{Bor, MutBor}
+use Rattle.search.specs.declared.NodeGuard.{NodeGuard}
 use Rattle.std.specs.List.{range_with_len}
 use Rattle.std.proofs.lemmas.Iterator.{YieldsList-from_range}
 use Rattle.routine.specs.declared.routine.Routine.{Routine}
@@ -15,7 +16,7 @@ returns c =
     let v = c.args.value in
     let to = c.args.to in
     let n = c.len.result in
-    let Kept : Bor Routine × Bor ℕ × Bor ℕ × MutBor (List ℕ) → Type 0 = λ f. (f.0 ≡ c.args.self) × (f.1.now ≡ v) × (f.2.now ≡ to) in
+    let Kept : Bor Routine × Bor ℕ × Bor ℕ × MutBor NodeGuard → Type 0 = λ f. (f.0 ≡ c.args.self) × (f.1.now ≡ v) × (f.2.now ≡ to) in
     let d : Decides c.any.result (AnyOf (Exposes r v to) (range_with_len 0 n)) = any_kept _ _ _ _ Kept (Exposes r v to) c.any.ensures.ran (YieldsList-from_range 0 n n refl (omega arith)) (refl, refl, refl)
     (λ p x b q k h. (
       (h.met.0.0 ∙ k.0, ap (λ f. f.now) h.met.0.1 ∙ k.1, ap (λ f. f.now) h.met.0.2 ∙ k.2),
