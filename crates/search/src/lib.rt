@@ -1,7 +1,7 @@
 // Reachability over any graph of numbered nodes, in marks that the caller lends and gets back zeroed.
 #![tactic(auto)]
 
-ghost use Rattle.std.specs.Prelude.{◌≡◌, ℕ, ◌+◌, ◌<◌, ◌≤◌, Bool, length, take, Option, MatchOption, slice_index, slice_set};
+ghost use Rattle.std.specs.Prelude.{◌≡◌, ℕ, ◌+◌, ◌<◌, ◌≤◌, Bool, List, length, take, Option, MatchOption, slice_index, slice_set};
 ghost use Rattle.std.specs.Fn.{FnOnceReturnsAtMut};
 ghost use Rattle.search.specs.Paths.{Edge, Walk, Unstopped};
 ghost use Rattle.search.specs.Stops.{open_slots};
@@ -52,6 +52,16 @@ pub trait Searches {
         ensures { gives self.now result };
 }
 
+// Work that is done in the marks themselves, one for each node. `gives` ties what they hold before to the answer and to what they hold after.
+pub trait Borrows: Drop {
+    type Answer;
+
+    ghost gives: { Self → List ℕ → Self.Answer → List ℕ → Type 0 };
+
+    fn answer(self, marks: &mut NodeMarks) -> Self::Answer
+        ensures { gives self marks.old result marks.new };
+}
+
 // A guard of the marks that a caller lends for searches. Its end zeroes every one of them,
 // whatever they held, however many there are, and whichever way leads out.
 // A search needs a guard, this or the one below, so none leaves marks behind. `named` says that the guard still holds the marks it was made over:
@@ -100,9 +110,19 @@ impl Marks<'_> {
         search(self.all, work)
     }
 
+    // Lends one mark for each node to the work, and gives back what it answers. The marks past those are as they were.
+    // Refused where there are fewer marks than nodes; then all are as they were.
+    pub fn lend<W: Borrows>(&mut self, work: W) -> Result<W::Answer, Refusal>
+        ensures answer { Lent (W.Borrows.gives work (take 256 self.old.all.now)) self.old.all.now self.new.all.now result }
+        ensures size { length self.new.all.now ≡ length self.old.all.now }
+        ensures named { self.new.all.ghost_name ≡ self.old.all.ghost_name }
+    {
+        lend(self.all, |marks| work.answer(marks))
+    }
+
     // Lends one mark for each node to `f`, and gives back what it returns.
     // Refused where there are fewer marks than nodes; then they are as they were.
-    fn lend<R, F: FnOnce(&mut NodeMarks) -> R>(&mut self, f: F) -> Result<R, Refusal>
+    fn lend_to<R, F: FnOnce(&mut NodeMarks) -> R>(&mut self, f: F) -> Result<R, Refusal>
         requires { F.IsAlwaysCallable f }
         ensures answer { Lent (FnOnceReturnsAtMut F.FnOnce f (take 256 self.old.all.now)) self.old.all.now self.new.all.now result }
         ensures size { length self.new.all.now ≡ length self.old.all.now }
@@ -119,7 +139,7 @@ impl Marks<'_> {
         ensures named { self.new.all.ghost_name ≡ self.old.all.ghost_name }
     {
         self.all.fill(0);
-        self.lend(|marks| follow(graph, from, marks))
+        self.lend_to(|marks| follow(graph, from, marks))
     }
 
     // As `follow`, for the paths with no stop between their ends.
@@ -157,7 +177,7 @@ fn search<W: Searches>(all: &mut [u8], work: &W) -> Result<W::Answer, Refusal>
     }
 }
 
-// What `Marks::lend` does with the slice of its guard: a proof needs to know no more of a guard than that.
+// What `Marks::lend` and `lend_to` do with the slice of their guard: a proof needs to know no more of a guard than that.
 fn lend<R, F: FnOnce(&mut NodeMarks) -> R>(all: &mut [u8], f: F) -> Result<R, Refusal>
     requires { F.IsAlwaysCallable f }
     ensures { Lent (FnOnceReturnsAtMut F.FnOnce f (take 256 all.old)) all.old all.new result }

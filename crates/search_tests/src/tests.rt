@@ -1,8 +1,8 @@
-ghost use Rattle.std.specs.Prelude.{min, length, if◌then◌else◌, Some, None, ◌==◌, nat_eq, slice_index_or};
+ghost use Rattle.std.specs.Prelude.{◌≡◌, min, length, if◌then◌else◌, Some, None, ◌==◌, nat_eq, slice_index, slice_index_or, slice_set};
 
 use crate::{Pair, link, reach};
 use refusal::{Refusal, numbered};
-use search::{Graph, Marks, NodeGuard, NodeMarks, Stops, reaches};
+use search::{Borrows, Graph, Marks, NodeGuard, NodeMarks, Stops, reaches};
 use std::process::Abort;
 
 // A graph by the list of its edges, of which it takes the first 1,000: each node has a slot for every edge, and its own lead on.
@@ -222,4 +222,68 @@ fn marks_that_are_enough_end_zero(rt: HostRuntime) {
     let mut marks = [7; 256];
     search_twice(&rt, &mut marks);
     assert!(rt; all_zero(&marks));
+}
+
+// Takes the mark of a node, and leaves another there.
+#[derive(Drop)]
+struct Exchange {
+    node: u8,
+    mark: u8,
+}
+
+impl Borrows for Exchange {
+    type Answer = u8;
+
+    ghost gives = { λ work old taken new. (taken ≡ slice_index old work.node) × (new ≡ slice_set old work.node work.mark) };
+
+    fn answer(self, marks: &mut NodeMarks) -> u8 {
+        let taken = marks[self.node as usize];
+        marks[self.node as usize] = self.mark;
+        taken
+    }
+}
+
+// A loan of a guard finds what the loan before it left, or the search before it.
+fn lend_in_turn(rt: &impl Abort, marks: &mut [u8]) {
+    let mut guard = Marks::over(marks);
+    assert_eq!(rt;
+        guard.lend(Exchange { node: 3, mark: 0 }).map_err(numbered),
+        Ok(7)
+    );
+    assert!(rt; !guard.is_marked(3));
+    assert!(rt; guard.is_marked(2));
+    assert!(rt; guard.is_marked(4));
+    assert_eq!(rt;
+        guard.lend(Exchange { node: 3, mark: 5 }).map_err(numbered),
+        Ok(0)
+    );
+    assert!(rt; guard.is_marked(3));
+    guard
+        .follow(&Table { edges: &EDGES }, 0)
+        .map_err(numbered)
+        .expect(rt, "enough marks");
+    assert_eq!(rt;
+        guard.lend(Exchange { node: 1, mark: 9 }).map_err(numbered),
+        Ok(1)
+    );
+}
+
+// A loan of too few marks is refused, and they are as they were.
+fn lend_few(rt: &impl Abort, marks: &mut [u8]) {
+    let mut guard = Marks::over(marks);
+    assert_eq!(rt;
+        guard.lend(Exchange { node: 3, mark: 0 }).map_err(numbered),
+        Err((14, 0))
+    );
+    assert!(rt; guard.is_marked(3));
+}
+
+#[test]
+fn marks_are_lent_and_end_zero(rt: HostRuntime) {
+    let mut marks = [7; 300];
+    lend_in_turn(&rt, &mut marks);
+    assert!(rt; all_zero(&marks));
+    let mut few = [7; 255];
+    lend_few(&rt, &mut few);
+    assert!(rt; all_zero(&few));
 }
